@@ -1,0 +1,132 @@
+-- Each call of document 01: from the desk, its arguments and the caller's slice of words to the reply, the desk and the slice afterwards.
+use mathlib.Core.List.{List, [], _∷_, _++_}
+use mathlib.Core.Bool.{Bool, cond}
+use Prim.Native.Nat.{ℕ, suc, _+_, min}
+use lib.Dec.{eqb}
+use lib.ListN.{length, getD, set, drop}
+use Rattle.lists.specs.Views.{count, first}
+use Rattle.rules.specs.Desk.{loaded, listed, noEntry}
+use Rattle.rules.specs.Messages.{message}
+use Rattle.rules.specs.Moments.{isMoment, moment, upto}
+use Rattle.rules.specs.SharedList.{viewAt, named, placed, settled}
+use Rattle.rules.specs.Refusals.{judged, readerRules, boardRules, openRules, requestRules, stepRules, lengthRules, placeRules}
+use Rattle.rules.specs.declared.Board.{Board}
+use Rattle.rules.specs.declared.Entry.{Entry}
+use Rattle.rules.specs.declared.Message.{Message}
+use Rattle.rules.specs.declared.Desk.{Desk}
+
+-- a refusal's number only, or what the call returns
+pub data Reply (A : Type 0) : Type 0 where
+  refused : ℕ → Reply A
+  accepted : A → Reply A
+
+-- The reader, and calls that only read: nothing is altered.
+
+unfoldable pub readerCall : List ℕ → Reply Message
+readerCall bytes = judged (readerRules bytes) refused (accepted (message bytes))
+
+unfoldable pub lengthCall : Desk → Reply ℕ
+lengthCall d = judged (lengthRules d) refused (accepted (d .len))
+
+unfoldable pub placeCall : Desk → ℕ → Reply Entry
+placeCall d at = judged (placeRules d at) refused (accepted (getD (d .entries) at noEntry))
+
+-- Calls that alter the desk: a refused one leaves it as it stood.
+
+pub record Outcome (A : Type 0) : Type 0 where
+  pub reply : Reply A
+  pub desk : Desk
+
+abbrev pub withBoard : Desk → Board → Desk
+withBoard d b = record { time = d .time; count = d .count + 1; boards = set (d .boards) (d .count) b; len = d .len; entries = d .entries }
+
+unfoldable pub boardCall : Desk → Board → Outcome Unit
+boardCall d b = judged (boardRules d b) (λ n. record { reply = refused n; desk = d }) (record { reply = accepted tt; desk = withBoard d b })
+
+abbrev pub opened : Desk → Desk
+opened d = record { time = record { clock = d .time .clock; phase = 1 }; count = d .count; boards = d .boards; len = d .len; entries = d .entries }
+
+unfoldable pub openCall : Desk → Outcome Unit
+openCall d = judged (openRules d) (λ n. record { reply = refused n; desk = d }) (record { reply = accepted tt; desk = opened d })
+
+-- the desk at a clock, with these entries on its list
+abbrev pub withList : Desk → ℕ → List Entry → Desk
+withList d clock es =
+    record {
+      time = record { clock = clock; phase = d .time .phase };
+      count = d .count;
+      boards = d .boards;
+      len = length es;
+      entries = settled (d .len) (d .entries) es;
+    }
+
+-- a request at the desk's clock
+abbrev pub entryAt : Desk → ℕ → ℕ → ℕ → Entry
+entryAt d topic id score = record { id = id; score = score; tick = d .time .clock; topic = topic }
+
+abbrev pub requested : Desk → Entry → Desk
+requested d e = withList d (d .time .clock) (named (loaded d) (d .time .clock) (placed e (listed d)))
+
+unfoldable pub requestCall : Desk → ℕ → ℕ → ℕ → Outcome Unit
+requestCall d topic id score =
+    judged (requestRules d topic score)
+    (λ n. record { reply = refused n; desk = d })
+    (record { reply = accepted tt; desk = requested d (entryAt d topic id score) })
+
+-- The step
+
+-- the earliest moment above n over all boards, or the target where that comes first
+unfoldable pub reached : List Board → ℕ → ℕ → ℕ
+reached [] n target = target
+reached (b ∷ bs) n target = min (moment b (upto b n)) (reached bs n target)
+
+-- a board's block: its number, the count, then id, score and tick of each entry
+unfoldable pub entryWords : List Entry → List ℕ
+entryWords [] = []
+entryWords (e ∷ es) = e .id ∷ e .score ∷ e .tick ∷ entryWords es
+
+abbrev pub block : ℕ → List Entry → List ℕ
+block number shown = number ∷ length shown ∷ entryWords shown
+
+-- the first k of the board's window at T, of entries in order of rank
+abbrev pub shownAt : Board → ℕ → List Entry → List Entry
+shownAt b T es = first (viewAt b T) es
+
+-- the blocks of the boards due at T in board order; the first of these boards has this number
+unfoldable pub blocks : ℕ → List Board → ℕ → List Entry → List ℕ
+blocks number [] T es = []
+blocks number (b ∷ bs) T es = cond (isMoment b T) (block number (shownAt b T es)) [] ++ blocks (suc number) bs T es
+
+-- the clock reached, the number of due boards, the number of words written
+pub record Steps : Type 0 where
+  pub clock : ℕ
+  pub due : ℕ
+  pub words : ℕ
+
+pub record StepOutcome : Type 0 where
+  pub reply : Reply Steps
+  pub desk : Desk
+  pub slice : List ℕ
+
+-- Words after the last block are unaltered.
+abbrev pub written : List ℕ → List ℕ → List ℕ
+written words slice = words ++ drop (length words) slice
+
+abbrev pub movedTo : Desk → ℕ → List ℕ → StepOutcome
+movedTo d T slice =
+    let words = blocks 0 (loaded d) T (listed d) in
+    record {
+      reply = accepted (record { clock = T; due = count (λ b. isMoment b T) (loaded d); words = length words });
+      desk = withList d T (named (loaded d) T (listed d));
+      slice = written words slice;
+    }
+
+-- An accepted step with a target equal to the clock alters nothing.
+abbrev pub stays : Desk → List ℕ → StepOutcome
+stays d slice = record { reply = accepted (record { clock = d .time .clock; due = 0; words = 0 }); desk = d; slice = slice }
+
+unfoldable pub stepCall : Desk → ℕ → List ℕ → StepOutcome
+stepCall d target slice =
+    judged (stepRules d target (length slice))
+    (λ n. record { reply = refused n; desk = d; slice = slice })
+    (cond (eqb target (d .time .clock)) (stays d slice) (movedTo d (reached (loaded d) (d .time .clock) target) slice))
