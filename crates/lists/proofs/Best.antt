@@ -30,6 +30,9 @@ module _ {A : Type 0} (p : A → Bool) where
   those-mem (y ∷ ys) (List·Memᴰ·head h) e = rw (sym (ap p h) ∙ e) (List·Memᴰ·head h)
   those-mem (y ∷ ys) (List·Memᴰ·tail m) e = put-mem (p y) y (those-mem ys m e)
 
+  pub those-onto : {x : A} (xs ys : List A) → (x ∈ xs → x ∈ ys) → x ∈ those p xs → x ∈ those p ys
+  those-onto xs ys f m = let r = mem-those xs m in those-mem ys (f (r .0)) (r .1)
+
   pub length-those : (xs : List A) → length (those p xs) ≡ count p xs
   length-those [] = refl
   length-those (y ∷ ys) = by (p y) (λ e. rw e (ap suc (length-those ys))) (λ e. rw e (length-those ys))
@@ -37,6 +40,15 @@ module _ {A : Type 0} (p : A → Bool) where
   pub count-those : (q : A → Bool) (xs : List A) → count p (those q xs) ≡ count (λ y. q y && p y) xs
   count-those q [] = refl
   count-those q (y ∷ ys) = by (q y) (λ e. rw (e, count-those q ys)) (λ e. rw e (count-those q ys))
+
+  -- A stronger test passes no more.
+  pub fewer-those : (q q′ : A → Bool) (xs : List A) → ((x : A) → x ∈ xs → q′ x ≡ true → q x ≡ true) → count p (those q′ xs) ≤ count p (those q xs)
+  fewer-those q q′ [] f = omega arith
+  fewer-those q q′ (x ∷ xs) f =
+      let r = fewer-those q q′ xs (λ y m. f y (List·Memᴰ·tail m)) in
+      by (q′ x)
+      (λ e. rw (e, f x (List·Memᴰ·head refl) e) (by (p x) (λ g. rw g (omega arith)) (λ g. rw g r)))
+      (λ e. rw e (by (q x) (λ g. rw g (by (p x) (λ h. rw h (omega arith)) (λ h. rw h r))) (λ g. rw g r)))
 
 swap : (b c : Bool) (n : ℕ) → cond b (suc (cond c (suc n) n)) (cond c (suc n) n) ≡ cond c (suc (cond b (suc n) n)) (cond b (suc n) n)
 swap true true n = refl

@@ -1,13 +1,13 @@
 -- Each call of document 01: from the desk, its arguments and the caller's slice of words to the reply, the desk and the slice afterwards.
 use mathlib.Core.List.{List, [], _∷_, _++_}
 use mathlib.Core.Bool.{Bool, cond}
-use Prim.Native.Nat.{ℕ, suc, _+_, min}
+use Prim.Native.Nat.{ℕ, suc, _+_}
 use lib.Dec.{eqb}
 use lib.ListN.{length, getD, set, drop}
 use Rattle.lists.specs.Views.{count, first}
 use Rattle.rules.specs.Desk.{loaded, listed, noEntry}
 use Rattle.rules.specs.Messages.{message}
-use Rattle.rules.specs.Moments.{isMoment, moment, upto}
+use Rattle.rules.specs.Moments.{isMoment, reached}
 use Rattle.rules.specs.SharedList.{viewAt, named, placed, settled}
 use Rattle.rules.specs.Refusals.{judged, readerRules, boardRules, openRules, requestRules, stepRules, lengthRules, placeRules}
 use Rattle.rules.specs.declared.Board.{Board}
@@ -74,11 +74,6 @@ requestCall d topic id score =
     (record { reply = accepted tt; desk = requested d (entryAt d topic id score) })
 
 -- The step
-
--- the earliest moment above n over all boards, or the target where that comes first
-unfoldable pub reached : List Board → ℕ → ℕ → ℕ
-reached [] n target = target
-reached (b ∷ bs) n target = min (moment b (upto b n)) (reached bs n target)
 
 -- a board's block: its number, the count, then id, score and tick of each entry
 unfoldable pub entryWords : List Entry → List ℕ

@@ -6,3 +6,4 @@ pub mod Refusals
 pub mod Calls
 pub mod Replies
 pub mod Edges
+pub mod Cells

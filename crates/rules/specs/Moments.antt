@@ -53,6 +53,9 @@ pub record Accepted : Type 0 where
   pub arrival : ℕ
   pub entry : Entry
 
+abbrev pub entryOf : Accepted → Entry
+entryOf x = x .entry
+
 -- A higher score; with equal scores, the later accepted.
 abbrev pub Better : Accepted → Accepted → Type 0
 Better x y = (y .entry .score < x .entry .score) ⊎ ((x .entry .score ≡ y .entry .score) × (y .arrival < x .arrival))
@@ -74,3 +77,13 @@ Answer b T xs shown = Best better (b .k) (windowOf b T xs) shown
 
 unfoldable pub answer : Board → ℕ → List Accepted → List Accepted
 answer b T xs = take (b .k) (windowOf b T (ranked better xs))
+
+-- A step from clock n to a target reaches m: the target, or before it the earliest moment of any board above n.
+pub record Reached (boards : List Board) (n target m : ℕ) : Type 0 where
+  pub atMost : m ≤ target
+  pub earliest : (b : Board) (T : ℕ) → b ∈ boards → Moment b T → n < T → m ≤ T
+  pub stop : (m ≡ target) ⊎ ((b : Board) × (b ∈ boards) × Moment b m × (n < m))
+
+unfoldable pub reached : List Board → ℕ → ℕ → ℕ
+reached [] n target = target
+reached (b ∷ bs) n target = min (moment b (upto b n)) (reached bs n target)

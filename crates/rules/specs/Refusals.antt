@@ -1,11 +1,13 @@
 -- Document 01, "Refusal numbers": what is refused, in which order, and a desk in disorder.
+use mathlib.Core.Path.{_≡_}
 use mathlib.Core.List.{List, [], _∷_}
 use mathlib.Core.Bool.{Bool, true, false, cond, not, _&&_, _||_}
-use Prim.Native.Nat.{ℕ, _+_, _*_}
+use mathlib.Core.Logic.{_⊎_}
+use Prim.Native.Nat.{ℕ, _+_, _*_, _≤_}
 use lib.Dec.{eqb, ltb, leb}
 use lib.ListN.{length, take}
 use Rattle.lists.specs.Views.{all}
-use Rattle.rules.specs.Desk.{within, need, needs, boardFits, requestFits, clockFits, loaded, listed, isOpen}
+use Rattle.rules.specs.Desk.{limit, within, need, needs, boardFits, requestFits, clockFits, loaded, listed, isOpen}
 use Rattle.rules.specs.Messages.{mark, sameBytes, number, message, zerosStand, fieldsFit}
 use Rattle.rules.specs.declared.Board.{Board}
 use Rattle.rules.specs.declared.Entry.{Entry}
@@ -24,6 +26,11 @@ _when_ n b = record { no = n; given = b }
 abbrev pub judged : {A : Type 0} → List Rule → (ℕ → A) → A → A
 judged [] refuse accept = accept
 judged (r ∷ rs) refuse accept = cond (r .given) (refuse (r .no)) (judged rs refuse accept)
+
+-- n is the number of the first rule that is given
+abbrev pub Refuses : List Rule → ℕ → Type 0
+Refuses [] n = ⊥
+Refuses (r ∷ rs) n = ((r .given ≡ true) × (r .no ≡ n)) ⊎ ((r .given ≡ false) × Refuses rs n)
 
 -- entries in the list's order by score: no score above the one before it
 unfoldable pub fallsFrom : ℕ → List Entry → Bool
@@ -55,6 +62,18 @@ disorder d =
     || not (all boardFits (loaded d))
     || not (all (entryFits (d .time .clock)) (listed d))
     || not (falls (listed d))
+
+-- the same, as what a desk in order has
+pub record InOrder (d : Desk) : Type 0 where
+  pub few : d .count ≤ 32
+  pub room : needs (loaded d) ≤ 1024
+  pub short : d .len ≤ needs (loaded d)
+  pub none : isOpen d ≡ false → d .len ≡ 0
+  pub clock : d .time .clock ≤ limit
+  pub phase : d .time .phase ≤ 1
+  pub boards : all boardFits (loaded d) ≡ true
+  pub entries : all (entryFits (d .time .clock)) (listed d) ≡ true
+  pub falling : falls (listed d) ≡ true
 
 abbrev pub readerRules : List ℕ → List Rule
 readerRules bytes =
