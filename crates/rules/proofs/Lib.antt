@@ -3,3 +3,7 @@ pub mod Moments
 pub mod Ranks
 pub mod Listing
 pub mod Nesting
+pub mod Refusing
+pub mod Stepping
+pub mod Edges
+pub mod Tried

@@ -1,11 +1,11 @@
 -- The one law of moments: number i is among the first `upto b x` exactly if it is a moment and at most x. All that rests on moments rests on this file.
 use mathlib.Core.Path.{_≡_, refl, sym, ap, _∙_}
 use mathlib.Core.Bool.{Bool, true, false, _&&_, and-eq-true-iff}
-use mathlib.Core.Logic.{_↔_}
+use mathlib.Core.Logic.{_⊎_, inl, inr, _↔_}
 use Prim.Native.Nat.{ℕ, zero, suc, _+_, _-_, _*_, _/_, _%_, _≤_, _<_, min}
 use native.Mathlib.Omega.{arith}
 use native.Mathlib.Nat.{mul-pos, mul-zero, zero-mul, suc-mul, add-mul, div-zero, div-add-mod', mul-mod-left, le-div-iff-mul-le, div-lt-iff-lt-mul, lt-div-mul-add, min-le-left, min-le-right, le-min}
-use borrow.Author.Tests.{ltb-true, ltb-false, lt-ltb, eqb-true, eq-eqb, leb-true, le-leb}
+use borrow.Author.Tests.{ltb-true, ltb-false, lt-ltb, eqb-true, eq-eqb, leb-true, leb-false, le-leb}
 use lib.Dec.{ltb, leb, eqb}
 use Rattle.lists.proofs.Bools.{by}
 use Rattle.rules.specs.Desk.{limit, roundedUp}
@@ -77,6 +77,14 @@ earlier b i c m = record {
   multiple = (suc i, refl);
   atMost = omega (arith, m .atMost, suc-mul (i + c) (b .slide), suc-mul i (b .slide), add-mul i c (b .slide));
 }
+
+-- Every number is a moment or beyond the limit.
+pub or-beyond : (b : Board) → 0 < b .slide → (i : ℕ) → Moment b (moment b i) ⊎ (limit < moment b i)
+unfolding moment
+or-beyond b p i =
+    by (leb (suc i * b .slide) limit)
+    (λ e. inl (record { positive = mul-pos (omega arith) p; multiple = (suc i, refl); atMost = leb-true _ _ e }))
+    (λ e. inr (leb-false _ _ e))
 
 -- Rounding up: the least number of slides that reaches the window.
 pub rounded-up : (a b : ℕ) → 0 < b → (m : ℕ) → (roundedUp a b ≤ m) ↔ (a ≤ m * b)

@@ -1,0 +1,79 @@
+-- Refusals: a number is given exactly when its rule is the first that is given; a desk is in disorder exactly when it is not in order.
+use mathlib.Core.Path.{_≡_, refl, sym, ap, _∙_}
+use mathlib.Core.List.{List, [], _∷_}
+use mathlib.Core.Bool.{Bool, true, false, cond, not, _&&_, _||_}
+use mathlib.Core.Logic.{_⊎_, inl, inr, _↔_}
+use Prim.Native.Nat.{ℕ, _≤_, _<_}
+use native.Mathlib.Omega.{arith}
+use borrow.Author.Tests.{ltb-false, le-ltb, leb-true, le-leb, not-false}
+use lib.Dec.{ltb, leb}
+use Rattle.lists.specs.Views.{all}
+use Rattle.lists.proofs.Bools.{by, clash, neither}
+use Rattle.rules.specs.Desk.{limit, needs, boardFits, loaded, listed, isOpen}
+use Rattle.rules.specs.Refusals.{Rule, judged, Refuses, entryFits, falls, disorder, InOrder}
+use Rattle.rules.specs.Calls.{Reply}
+use Rattle.rules.specs.Calls.Reply.{refused, accepted}
+use Rattle.rules.specs.declared.Desk.{Desk}
+
+module _ {A : Type 0} (a : A) (n : ℕ) where
+  same-number : (m : ℕ) → _≡_ {A = Reply A} (refused m) (refused n) → m ≡ n
+  same-number m e = cc
+
+  not-refused : _≡_ {A = Reply A} (accepted a) (refused n) → ⊥
+  not-refused e = let z : _≡_ {A = ℕ} 0 1 = cc in omega arith
+
+  refused-first : (rs : List Rule) → judged rs refused (accepted a) ≡ refused n → Refuses rs n
+  refused-first [] h = not-refused h
+  refused-first (r ∷ rs) h = by (r .given) (λ e. inl (e, same-number (r .no) (rw e at h))) (λ e. inr (e, refused-first rs (rw e at h)))
+
+  first-refused : (rs : List Rule) → Refuses rs n → judged rs refused (accepted a) ≡ refused n
+  first-refused [] h = absurd h
+  first-refused (r ∷ rs) (inl h) = rw (h .0, h .1)
+  first-refused (r ∷ rs) (inr h) = rw (h .0) (first-refused rs (h .1))
+
+  pub refused-exactly : (rs : List Rule) → (judged rs refused (accepted a) ≡ refused n) ↔ Refuses rs n
+  refused-exactly rs = (refused-first rs, first-refused rs)
+
+module _ (d : Desk) where
+  pub in-order : disorder d ≡ false → InOrder d
+  unfolding disorder
+  in-order e =
+      let h = neither _ _ e in
+      let g = neither _ _ (h .0) in
+      let f = neither _ _ (g .0) in
+      let p = neither _ _ (f .0) in
+      let c = neither _ _ (p .0) in
+      let l = neither _ _ (c .0) in
+      let s = neither _ _ (l .0) in
+      let r = neither _ _ (s .0) in
+      record {
+        few = ltb-false 32 (d .count) (r .0);
+        room = ltb-false 1024 (needs (loaded d)) (r .1);
+        short = ltb-false (needs (loaded d)) (d .len) (s .1);
+        none = λ q. omega (arith, ltb-false 0 (d .len) (rw q at (l .1)));
+        clock = leb-true (d .time .clock) limit (not-false _ (c .1));
+        phase = ltb-false 1 (d .time .phase) (p .1);
+        boards = not-false _ (f .1);
+        entries = not-false _ (g .1);
+        falling = not-false _ (h .1);
+      }
+
+  pub order-in : InOrder d → disorder d ≡ false
+  unfolding disorder
+  order-in o =
+      let none : (not (isOpen d) && ltb 0 (d .len)) ≡ false = loading (isOpen d) refl in
+      rw (
+        le-ltb 32 (d .count) (o .few),
+        le-ltb 1024 (needs (loaded d)) (o .room),
+        le-ltb (needs (loaded d)) (d .len) (o .short),
+        none,
+        le-leb (d .time .clock) limit (o .clock),
+        le-ltb 1 (d .time .phase) (o .phase),
+        o .boards,
+        o .entries,
+        o .falling,
+      )
+    where
+      loading : (t : Bool) → isOpen d ≡ t → (not t && ltb 0 (d .len)) ≡ false
+      loading true e = refl
+      loading false e = le-ltb 0 (d .len) (omega (arith, o .none e))
