@@ -4,7 +4,7 @@ use mathlib.Core.Bool.{Bool, true, false, _&&_, and-eq-true-iff}
 use mathlib.Core.Logic.{_⊎_, inl, inr, _↔_}
 use Prim.Native.Nat.{ℕ, zero, suc, _+_, _-_, _*_, _/_, _%_, _≤_, _<_, min}
 use native.Mathlib.Omega.{arith}
-use native.Mathlib.Nat.{mul-pos, mul-zero, zero-mul, suc-mul, add-mul, div-zero, div-add-mod', mul-mod-left, le-div-iff-mul-le, div-lt-iff-lt-mul, lt-div-mul-add, min-le-left, min-le-right, le-min}
+use native.Mathlib.Nat.{mul-pos, mul-zero, zero-mul, suc-mul, add-mul, div-zero, div-add-mod', mul-mod-left, le-div-iff-mul-le, div-lt-iff-lt-mul, lt-div-mul-add, div-mul-le-self, div-le-self, le-mul-of-pos-right, min-le-left, min-le-right, le-min}
 use borrow.Author.Tests.{ltb-true, ltb-false, lt-ltb, eqb-true, eq-eqb, leb-true, leb-false, le-leb}
 use lib.Dec.{ltb, leb, eqb}
 use Rattle.lists.proofs.Bools.{by}
@@ -93,3 +93,21 @@ rounded-up a b p m = (
   λ h. omega (arith, div-lt-iff-lt-mul {k = b} {x = a + (b - 1)} {y = suc m} p .0 (omega arith), suc-mul m b),
   λ h. omega (arith, div-lt-iff-lt-mul {k = b} {x = a + (b - 1)} {y = suc m} p .1 (omega (arith, suc-mul m b))),
 )
+
+-- What fits: no more slides than ticks; the first moment above a tick is at most a slide past the limit.
+pub rounded-small : (a b : ℕ) → roundedUp a b ≤ a
+unfolding roundedUp
+rounded-small a b =
+    by (ltb 0 b)
+    (λ e. rounded-up a b (ltb-true _ _ e) a .1 (le-mul-of-pos-right a (ltb-true _ _ e)))
+    (λ e.
+    let z : b ≡ 0 = omega (arith, ltb-false 0 b e) in
+    rw (z, div-zero) (omega arith))
+
+pub next-small : (b : Board) (x : ℕ) → moment b (upto b x) ≤ limit + b .slide
+unfolding moment upto
+next-small b x = omega (arith, suc-mul (min x limit / b .slide) (b .slide), div-mul-le-self (min x limit) (b .slide), min-le-right x limit)
+
+pub upto-small : (b : Board) (x : ℕ) → upto b x ≤ limit
+unfolding upto
+upto-small b x = omega (arith, div-le-self (min x limit) (b .slide), min-le-right x limit)

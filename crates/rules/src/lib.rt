@@ -1,4 +1,10 @@
-// Document 01's values: what a desk has, what a message holds, what a call answers.
+// Document 01's values: what a desk has, what a message holds, what a call answers; and the leaf functions on one board.
+ghost use mathlib.Core.Path.{_≡_};
+ghost use Prim.Native.Nat.{_-_, min};
+ghost use Rattle.rules.specs.Desk.{names as namesOf, need as needOf, within as withinOf, boardFits, requestFits};
+ghost use Rattle.rules.specs.Moments.{isMoment, moment, upto, inWindow};
+ghost use Rattle.rules.specs.Cells.{cells as cellsOf, held as heldOf};
+ghost use Rattle.rules.specs.Replies.{number as numberOf};
 
 pub struct Board {
     pub mask: u32,
@@ -81,4 +87,165 @@ pub enum Found {
 pub enum Read {
     Message(Message),
     Refused(Refusal),
+}
+
+// Topics are 0 to 7; a mask of 0 names all eight.
+pub fn names(board: Board, topic: u32) -> bool
+    ensures { λ r. ⌜ r ≡ namesOf board topic ⌝ }
+{
+    let mask = board.mask;
+    if topic < 8 {
+        if mask == 0 {
+            return true;
+        }
+        return (mask >> topic) % 2 == 1;
+    }
+    false
+}
+
+fn within(low: u32, high: u32, n: u32) -> bool
+    ensures { λ r. ⌜ r ≡ withinOf low high n ⌝ }
+{
+    if n < low {
+        return false;
+    }
+    n <= high
+}
+
+// Whether the board's fields are in their ranges.
+pub fn board_fits(board: Board) -> bool
+    ensures { λ r. ⌜ r ≡ boardFits board ⌝ }
+{
+    if 255 < board.mask {
+        return false;
+    }
+    if within(1, 86400, board.window) {
+        if within(1, 86400, board.slide) {
+            return within(1, 256, board.k);
+        }
+        return false;
+    }
+    false
+}
+
+// Whether a request's topic and score are in their ranges.
+pub fn request_fits(topic: u32, score: u32) -> bool
+    ensures { λ r. ⌜ r ≡ requestFits topic score ⌝ }
+{
+    if 7 < topic {
+        return false;
+    }
+    score <= 1000000000
+}
+
+// The window divided by the slide, rounded up.
+pub fn cells(board: Board) -> usize
+    ensures { λ r. ⌜ r ≡ cellsOf board ⌝ }
+{
+    let slide = board.slide as usize;
+    if slide == 0 {
+        return 0;
+    }
+    (board.window as usize + (slide - 1)) / slide
+}
+
+pub fn need(board: Board) -> usize
+    ensures { λ r. ⌜ r ≡ needOf board ⌝ }
+{
+    board.k as usize * cells(board)
+}
+
+fn least(a: usize, b: usize) -> usize
+    ensures { λ r. ⌜ r ≡ min a b ⌝ }
+{
+    if a < b { a } else { b }
+}
+
+// The difference, or 0 where it would be below.
+fn less(a: usize, b: usize) -> usize
+    ensures { λ r. ⌜ r ≡ a - b ⌝ }
+{
+    if a < b { 0 } else { a - b }
+}
+
+// How many of the board's moments are at most x.
+pub fn moments_upto(board: Board, x: usize) -> usize
+    ensures { λ r. ⌜ r ≡ upto board x ⌝ }
+{
+    let slide = board.slide as usize;
+    if slide == 0 {
+        return 0;
+    }
+    least(x, 1000000000) / slide
+}
+
+// The board's first moment above the clock; past the limit it is none.
+pub fn next_moment(board: Board, clock: u32) -> usize
+    ensures { λ r. ⌜ r ≡ moment board (upto board clock) ⌝ }
+{
+    let passed = moments_upto(board, clock as usize);
+    (passed + 1) * board.slide as usize
+}
+
+pub fn is_moment(board: Board, tick: u32) -> bool
+    ensures { λ r. ⌜ r ≡ isMoment board tick ⌝ }
+{
+    let slide = board.slide;
+    if tick == 0 {
+        return false;
+    }
+    if slide == 0 {
+        return false;
+    }
+    if tick % slide != 0 {
+        return false;
+    }
+    tick <= 1000000000
+}
+
+// Whether the entry lies in the board's window at a moment.
+pub fn in_window(board: Board, at: u32, e: Entry) -> bool
+    ensures { λ r. ⌜ r ≡ inWindow board at e ⌝ }
+{
+    if names(board, e.topic) {
+        if e.tick < at {
+            return at as usize <= e.tick as usize + board.window as usize;
+        }
+        return false;
+    }
+    false
+}
+
+// How many of the board's cells hold the entry: the first so many.
+pub fn held(board: Board, clock: u32, e: Entry) -> usize
+    ensures { λ r. ⌜ r ≡ heldOf clock board e ⌝ }
+{
+    if names(board, e.topic) {
+        let last = moments_upto(board, e.tick as usize + board.window as usize);
+        let views = less(last, moments_upto(board, clock as usize));
+        return least(views, cells(board));
+    }
+    0
+}
+
+// Document 01's number of a refusal.
+pub fn number(refusal: Refusal) -> u32
+    ensures { λ r. ⌜ r ≡ numberOf refusal ⌝ }
+{
+    match refusal {
+        Refusal::Short => 1,
+        Refusal::Mark => 2,
+        Refusal::Version => 3,
+        Refusal::Kind => 4,
+        Refusal::Nonzero => 5,
+        Refusal::Range => 6,
+        Refusal::Boards => 7,
+        Refusal::Needs => 8,
+        Refusal::Phase => 9,
+        Refusal::Boardless => 10,
+        Refusal::Past => 11,
+        Refusal::Reply => 12,
+        Refusal::Place => 13,
+        Refusal::Disorder => 99,
+    }
 }
