@@ -5,3 +5,4 @@ pub mod Place
 pub mod Best
 pub mod Nested
 pub mod Along
+pub mod Turns

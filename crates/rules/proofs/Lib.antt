@@ -7,3 +7,4 @@ pub mod Refusing
 pub mod Stepping
 pub mod Edges
 pub mod Tried
+pub mod Fitting

@@ -1,7 +1,7 @@
 -- Document 01, "What the desk has": the ranges, the need of a board, the topics that a mask names.
 use mathlib.Core.List.{List, [], _∷_}
 use mathlib.Core.Bool.{Bool, _&&_, _||_}
-use Prim.Native.Nat.{ℕ, _+_, _-_, _*_, _/_, _%_, _^_}
+use Prim.Native.Nat.{ℕ, _+_, _-_, _*_, _/_, _%_, _^_, _≤_}
 use lib.Dec.{eqb, ltb, leb}
 use lib.ListN.{take, replicate}
 use Rattle.rules.specs.declared.Board.{Board}
@@ -32,7 +32,13 @@ unfoldable pub needs : List Board → ℕ
 needs [] = 0
 needs (b ∷ bs) = need b + needs bs
 
--- the ranges of a board's fields, of a request's, and of a clock or a target
+-- The ranges of a board's fields, of a request's, and of a clock or a target.
+pub record BoardFits (b : Board) : Type 0 where
+  pub mask : b .mask ≤ 255
+  pub window : (1 ≤ b .window) × (b .window ≤ 86400)
+  pub slide : (1 ≤ b .slide) × (b .slide ≤ 86400)
+  pub k : (1 ≤ b .k) × (b .k ≤ 256)
+
 unfoldable pub boardFits : Board → Bool
 boardFits b = leb (b .mask) 255 && within 1 86400 (b .window) && within 1 86400 (b .slide) && within 1 256 (b .k)
 
