@@ -56,7 +56,7 @@ returns-3 c =
     let d = e .before .args .t1 in
     let left = turn (d .boards) (d .count) noBoard (few e) (s .loop .i) (c .before .before .before .loop-test .taken) in
     let fits = s .loop .inv .1 ∙ ap (λ l. leb (needsOf l) (s .loop .left)) left ∙ too-much (need (getD (d .boards) (s .loop .i) noBoard)) _ (s .loop .left) (omega (arith, c .before .need2 .ensures)) in
-    sym (rw (← s .before .before .need .ensures, fits) (and-false _))
+    sym (rw (← s .before .before .need .ensures, fits) (and-false (leb (d .count) 32)))
 
 add-i : tie.Need-add-i Inv-loop μ-loop
 add-i c = omega arith
