@@ -47,6 +47,11 @@ reached-is n target fits (b ∷ bs) slide =
     let k : reached bs n target ≤ moment b (upto b n) = omega arith in
     rw (min-eq-right k) (others-first n target fits b bs (reached bs n target) rest h))
 
+pub reached-at-most : (boards : List Board) (n target : ℕ) → reached boards n target ≤ target
+unfolding reached
+reached-at-most [] n target = omega arith
+reached-at-most (b ∷ bs) n target = omega (arith, reached-at-most bs n target)
+
 -- A step stops at one place only.
 pub reached-only : (boards : List Board) (n target m m′ : ℕ) → Reached boards n target m → Reached boards n target m′ → m ≡ m′
 reached-only boards n target m m′ r s = omega (arith, below m m′ r s, below m′ m s r)
