@@ -8,3 +8,4 @@ pub mod Stepping
 pub mod Edges
 pub mod Tried
 pub mod Fitting
+pub mod Answering

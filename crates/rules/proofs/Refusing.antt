@@ -34,6 +34,18 @@ module _ {A : Type 0} (a : A) (n : ℕ) where
   pub refused-exactly : (rs : List Rule) → (judged rs refused (accepted a) ≡ refused n) ↔ Refuses rs n
   refused-exactly rs = (refused-first rs, first-refused rs)
 
+-- An accepted call: no rule was given.
+abbrev pub None : List Rule → Type 0
+None [] = Unit {0}
+None (r ∷ rs) = (r .given ≡ false) × None rs
+
+pub none-given : {A : Type 0} (rs : List Rule) (x a : A) → judged rs refused (accepted x) ≡ accepted a → None rs × (x ≡ a)
+none-given [] x a e = (tt, cc)
+none-given (r ∷ rs) x a e =
+    by (r .given)
+    (λ t. let clash = rw t at e in let z : _≡_ {A = ℕ} 0 1 = cc in absurd (omega arith))
+    (λ f. let s = none-given rs x a (rw f at e) in ((f, s .0), s .1))
+
 module _ (d : Desk) where
   pub in-order : disorder d ≡ false → InOrder d
   unfolding disorder

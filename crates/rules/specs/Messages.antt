@@ -25,8 +25,8 @@ bigEndian [] = 0
 bigEndian (x ∷ xs) = x * 256 ^ length xs + bigEndian xs
 
 -- the number in `size` bytes from a place on
-abbrev pub number : List ℕ → ℕ → ℕ → ℕ
-number bytes from size = bigEndian (take size (drop from bytes))
+abbrev pub numberAt : List ℕ → ℕ → ℕ → ℕ
+numberAt bytes from size = bigEndian (take size (drop from bytes))
 
 -- n places from one on
 abbrev pub places : ℕ → ℕ → List ℕ
@@ -41,17 +41,20 @@ byKind kind board request opening clock = cond (eqb kind 1) board (cond (eqb kin
 unfoldable pub zeros : ℕ → List ℕ
 zeros kind = 7 ∷ byKind kind [] (places 16 4) (6 ∷ places 8 12) (6 ∷ places 12 8)
 
+abbrev pub isZero : List ℕ → ℕ → Bool
+isZero bytes place = eqb (getD bytes place 0) 0
+
 unfoldable pub zerosStand : List ℕ → ℕ → Bool
-zerosStand bytes kind = all (λ place. eqb (getD bytes place 0) 0) (zeros kind)
+zerosStand bytes kind = all (isZero bytes) (zeros kind)
 
 -- the fields of a message, by their place
 unfoldable pub message : List ℕ → Message
 message bytes = record {
-  kind = number bytes 5 1;
-  byte = number bytes 6 1;
-  first = number bytes 8 4;
-  second = number bytes 12 4;
-  third = number bytes 16 4;
+  kind = numberAt bytes 5 1;
+  byte = numberAt bytes 6 1;
+  first = numberAt bytes 8 4;
+  second = numberAt bytes 12 4;
+  third = numberAt bytes 16 4;
 }
 
 -- mask, window, slide and k of a board message

@@ -8,7 +8,7 @@ use lib.Dec.{eqb, ltb, leb}
 use lib.ListN.{length, take}
 use Rattle.lists.specs.Views.{all}
 use Rattle.rules.specs.Desk.{limit, within, need, needs, boardFits, requestFits, clockFits, loaded, listed, isOpen}
-use Rattle.rules.specs.Messages.{mark, sameBytes, number, message, zerosStand, fieldsFit}
+use Rattle.rules.specs.Messages.{mark, sameBytes, numberAt, message, zerosStand, fieldsFit}
 use Rattle.rules.specs.declared.Board.{Board}
 use Rattle.rules.specs.declared.Entry.{Entry}
 use Rattle.rules.specs.declared.Desk.{Desk}
@@ -79,7 +79,7 @@ abbrev pub readerRules : List ℕ → List Rule
 readerRules bytes =
     1 when ltb (length bytes) 20
     ∷ 2 when not (sameBytes (take 3 bytes) mark)
-    ∷ 3 when not (eqb (number bytes 3 2) 1)
+    ∷ 3 when not (eqb (numberAt bytes 3 2) 1)
     ∷ 4 when not (within 1 4 (message bytes .kind))
     ∷ 5 when not (zerosStand bytes (message bytes .kind))
     ∷ 6 when not (fieldsFit (message bytes))

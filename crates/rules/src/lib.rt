@@ -1,7 +1,7 @@
 // Document 01's values: what a desk has, what a message holds, what a call answers; and the leaf functions on one board.
 ghost use mathlib.Core.Path.{_≡_};
 ghost use Prim.Native.Nat.{_-_, min};
-ghost use Rattle.rules.specs.Desk.{names as namesOf, need as needOf, within as withinOf, boardFits, requestFits};
+ghost use Rattle.rules.specs.Desk.{names as namesOf, need as needOf, within as withinOf, boardFits, requestFits, clockFits};
 ghost use Rattle.rules.specs.Moments.{isMoment, moment, upto, inWindow};
 ghost use Rattle.rules.specs.Cells.{cells as cellsOf, held as heldOf};
 ghost use Rattle.rules.specs.Replies.{number as numberOf};
@@ -136,6 +136,13 @@ pub fn request_fits(topic: u32, score: u32) -> bool
         return false;
     }
     score <= 1000000000
+}
+
+// Whether a clock or a target is in its range.
+pub fn clock_fits(clock: u32) -> bool
+    ensures { λ r. ⌜ r ≡ clockFits clock ⌝ }
+{
+    clock <= 1000000000
 }
 
 // The window divided by the slide, rounded up.

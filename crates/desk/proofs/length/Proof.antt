@@ -15,20 +15,20 @@ in-disorder-requires c κs = search needs
 
 returns : tie.Need-returns
 unfolding lengthCall
-returns c = 
+returns c =
     let d = c .before .before .args .desk in
     let o : disorder d ≡ true = cc in
     rw o
 
 cast-t4 : tie.Need-cast-t4
-cast-t4 c = 
+cast-t4 c =
     let d = c .before .before .before .args .desk in
     let o : disorder d ≡ false = cc in
     omega (arith, in-order d o .short, in-order d o .room)
 
 returns-2 : tie.Need-returns-2
 unfolding lengthCall
-returns-2 c = 
+returns-2 c =
     let d = c .before .before .before .args .desk in
     let o : disorder d ≡ false = cc in
     rw o

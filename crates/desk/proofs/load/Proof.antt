@@ -19,7 +19,7 @@ refused-requires c κs = search needs
 
 returns : tie.Need-returns
 unfolding boardCall
-returns c = 
+returns c =
     let d = c .before .before .before .args .desk in
     let o : disorder d ≡ true = cc in
     rw (c .refused .ensures, o)
@@ -32,7 +32,7 @@ refused-requires-2 c κs = search needs
 
 returns-2 : tie.Need-returns-2
 unfolding boardCall
-returns-2 c = 
+returns-2 c =
     let d = c .before .before .before .before .before .before .before .args .desk in
     let x = c .before .before .before .before .before .before .before .args .board in
     let o : disorder d ≡ false = cc in
@@ -44,7 +44,7 @@ refused-requires-3 c κs = search needs
 
 returns-3 : tie.Need-returns-3
 unfolding boardCall
-returns-3 c = 
+returns-3 c =
     let d = c .before .before .before .before .before .before .before .before .args .desk in
     let x = c .before .before .before .before .before .before .before .before .args .board in
     let o : disorder d ≡ false = cc in
@@ -65,7 +65,7 @@ add-next c = search needs
 
 returns-4 : tie.Need-returns-4
 unfolding boardCall
-returns-4 c = 
+returns-4 c =
     let d = c .before .before .before .before .before .before .before .before .before .args .desk in
     let x = c .before .before .before .before .before .before .before .before .before .args .board in
     let o : disorder d ≡ false = cc in
@@ -78,7 +78,7 @@ refused-requires-4 c κs = search needs
 
 returns-5 : tie.Need-returns-5
 unfolding boardCall
-returns-5 c = 
+returns-5 c =
     let d = c .before .before .before .before .before .before .before .before .before .before .args .desk in
     let x = c .before .before .before .before .before .before .before .before .before .before .args .board in
     let o : disorder d ≡ false = cc in
@@ -91,7 +91,7 @@ refused-requires-5 c κs = search needs
 
 returns-6 : tie.Need-returns-6
 unfolding boardCall
-returns-6 c = 
+returns-6 c =
     let d = c .before .before .before .before .before .args .desk in
     let x = c .before .before .before .before .before .args .board in
     let o : disorder d ≡ false = cc in

@@ -17,7 +17,7 @@ refused-requires c κs = search needs
 
 returns : tie.Need-returns
 unfolding openCall
-returns c = 
+returns c =
     let d = c .before .before .before .args .desk in
     let o : disorder d ≡ true = cc in
     rw (c .refused .ensures, o)
@@ -27,7 +27,7 @@ refused-requires-2 c κs = search needs
 
 returns-2 : tie.Need-returns-2
 unfolding openCall
-returns-2 c = 
+returns-2 c =
     let d = c .before .before .before .before .before .args .desk in
     let o : disorder d ≡ false = cc in
     rw (c .refused2 .ensures, o, eq-eqb _ _ (c .before .if2 .taken))
@@ -37,14 +37,14 @@ refused-requires-3 c κs = search needs
 
 returns-3 : tie.Need-returns-3
 unfolding openCall
-returns-3 c = 
+returns-3 c =
     let d = c .before .before .before .before .before .before .before .args .desk in
     let o : disorder d ≡ false = cc in
     rw (c .refused3 .ensures, o, ne-eqb _ _ (c .before .before .before .if2 .left), eq-eqb _ _ (c .before .if3 .taken))
 
 returns-4 : tie.Need-returns-4
 unfolding openCall
-returns-4 c = 
+returns-4 c =
     let d = c .before .before .before .before .before .before .before .args .desk in
     let o : disorder d ≡ false = cc in
     rw (o, ne-eqb _ _ (c .before .before .before .if2 .left), ne-eqb _ _ (c .before .if3 .left))

@@ -16,33 +16,33 @@ in-disorder-requires c κs = search needs
 
 returns : tie.Need-returns
 unfolding placeCall
-returns c = 
+returns c =
     let d = c .before .before .args .t1 in
     let o : disorder d ≡ true = cc in
     rw o
 
 returns-2 : tie.Need-returns-2
 unfolding placeCall
-returns-2 c = 
+returns-2 c =
     let d = c .before .before .before .args .t1 in
     let o : disorder d ≡ false = cc in
     rw (o, le-leb _ _ (c .if2 .taken))
 
 mul-e : tie.Need-mul-e
-mul-e c = 
+mul-e c =
     let d = c .before .before .before .args .t1 in
     let o : disorder d ≡ false = cc in
     omega (arith, in-order d o .short, in-order d o .room)
 
 element-copy-out-e : tie.Need-element-copy-out-e
-element-copy-out-e c = 
+element-copy-out-e c =
     let d = c .before .before .before .args .t1 in
     let o : disorder d ≡ false = cc in
     omega (arith, in-order d o .short, in-order d o .room)
 
 returns-3 : tie.Need-returns-3
 unfolding placeCall
-returns-3 c = 
+returns-3 c =
     let d = c .before .before .before .before .args .t1 in
     let o : disorder d ≡ false = cc in
     rw (o, lt-leb _ _ (c .before .if2 .left))

@@ -12,7 +12,7 @@ use Rattle.desk.proofs.reached.Statement.{statement}
 use Rattle.desk.proofs.reached.Tie as tie
 
 abbrev Inv-loop : tie.InvT-loop
-Inv-loop target desk clock count at₀ i₀ at i = 
+Inv-loop target desk clock count at₀ i₀ at i =
     (i ≤ count) × (at ≤ target) × (reached (take count (desk .boards)) clock target ≡ min at (reached (drop i (take count (desk .boards))) clock target))
 
 abbrev μ-loop : tie.MeasureT-loop
@@ -24,7 +24,7 @@ few c =
     omega (arith, c .pre)
 
 loop-holds : tie.Need-loop-holds Inv-loop μ-loop
-loop-holds c = 
+loop-holds c =
     let d = c .args .t1 in
     (omega arith, omega arith, omega (arith, reached-at-most (take (d .count) (d .boards)) (d .time .clock) (c .args .target)))
 
@@ -48,7 +48,7 @@ loop-less c = omega arith
 
 loop-again : tie.Need-loop-again Inv-loop μ-loop
 unfolding reached
-loop-again c = 
+loop-again c =
     let s = c .before .before .before .before in
     let d = s .before .args .t1 in
     let left = turn (d .boards) (d .count) noBoard (few (s .before)) (s .loop .i) (c .before .before .before .loop-test .taken) in
@@ -58,7 +58,7 @@ loop-again c =
 
 returns : tie.Need-returns Inv-loop μ-loop
 unfolding reached
-returns c = 
+returns c =
     let s = c .before in
     let d = s .before .args .t1 in
     omega (arith, s .loop .inv .1, s .loop .inv .2, ap (λ l. reached l (d .time .clock) (s .before .args .target)) (turned (d .boards) (d .count) noBoard (few (s .before)) (s .loop .i) (c .loop-test .left)))
