@@ -3,7 +3,7 @@ use mathlib.Core.Path.{_≡_, refl, sym, ap, ap₂, subst, _∙_}
 use mathlib.Core.List.{List, [], _∷_, List·Memᴰ·head, List·Memᴰ·tail, List·Memᴰ·not-nil, List·Memᴰ·cases-cons, Memᴰ·cast}
 use mathlib.Core.Bool.{Bool, true, false, cond, _&&_}
 use mathlib.Core.Logic.{_⊎_, inl, inr, _↔_}
-use Prim.Native.Nat.{ℕ, zero, suc, _+_, _≤_, _<_, min}
+use Prim.Native.Nat.{ℕ, zero, suc, _+_, _-_, _≤_, _<_, min}
 use native.Mathlib.Omega.{arith}
 use native.Mathlib.Nat.{min-le-left, suc-min-suc}
 use lib.ListN.{length, take, length-take}
@@ -40,6 +40,16 @@ module _ {A : Type 0} (p : A → Bool) where
   pub count-those : (q : A → Bool) (xs : List A) → count p (those q xs) ≡ count (λ y. q y && p y) xs
   count-those q [] = refl
   count-those q (y ∷ ys) = by (q y) (λ e. rw (e, count-those q ys)) (λ e. rw e (count-those q ys))
+
+  pub those-fewer : (xs : List A) → length (those p xs) ≤ length xs
+  those-fewer [] = omega arith
+  those-fewer (x ∷ xs) = let r = those-fewer xs in by (p x) (λ e. rw e (omega arith)) (λ e. rw e (omega arith))
+
+  -- Of the first k, n are taken, and x is the next of those.
+  pub take-those : (k n : ℕ) (x : A) (xs : List A) → n < k → p x ≡ true → take (k - n) (those p (x ∷ xs)) ≡ x ∷ take (k - (n + 1)) (those p xs)
+  take-those k n x xs h e =
+      let m : k - n ≡ suc (k - (n + 1)) = omega arith in
+      rw (e, m)
 
   -- A stronger test passes no more.
   pub fewer-those : (q q′ : A → Bool) (xs : List A) → ((x : A) → x ∈ xs → q′ x ≡ true → q x ≡ true) → count p (those q′ xs) ≤ count p (those q xs)
