@@ -1,17 +1,17 @@
 -- Best first. In a falling list those before an element are just those above it; so "fewer than cap before it" is "fewer than cap above it".
 use mathlib.Core.Path.{_≡_, refl, sym, ap, ap₂, subst, _∙_}
 use mathlib.Core.List.{List, [], _∷_, List·Memᴰ·head, List·Memᴰ·tail, List·Memᴰ·not-nil, List·Memᴰ·cases-cons, Memᴰ·cast}
-use mathlib.Core.Bool.{Bool, true, false, cond, _&&_}
+use mathlib.Core.Bool.{Bool, true, false, cond, _&&_, and-eq-true-iff}
 use mathlib.Core.Logic.{_⊎_, inl, inr, _↔_}
 use Prim.Native.Nat.{ℕ, zero, suc, _+_, _-_, _≤_, _<_, min}
 use native.Mathlib.Omega.{arith}
 use native.Mathlib.Nat.{min-le-left, suc-min-suc}
 use lib.ListN.{length, take, length-take}
-use Rattle.lists.specs.Views.{View, _∈_, put, those, count, needed, keep}
-use Rattle.lists.specs.Order.{place, ranked, Strict, Falling, Needed, Best}
+use Rattle.lists.specs.Views.{View, _∈_, put, those, count, all, needed, keep, shows, pass, sift}
+use Rattle.lists.specs.Order.{place, ranked, Ranked, Strict, Falling, Needed, Best}
 use Rattle.lists.proofs.Bools.{by, clash}
 use Rattle.lists.proofs.Quota.{needed-some, some-needed}
-use Rattle.lists.proofs.Laws.{mem-put, put-mem}
+use Rattle.lists.proofs.Laws.{mem-put, put-mem, sift-mem}
 use Rattle.lists.proofs.Place.{place-mem}
 
 -- Those that pass a test
@@ -32,6 +32,16 @@ module _ {A : Type 0} (p : A → Bool) where
 
   pub those-onto : {x : A} (xs ys : List A) → (x ∈ xs → x ∈ ys) → x ∈ those p xs → x ∈ those p ys
   those-onto xs ys f m = let r = mem-those xs m in those-mem ys (f (r .0)) (r .1)
+
+  -- All pass exactly if each does.
+  pub all-of : (xs : List A) → ((x : A) → x ∈ xs → p x ≡ true) → all p xs ≡ true
+  all-of [] h = refl
+  all-of (y ∷ ys) h = rw (h y (List·Memᴰ·head refl), all-of ys (λ x m. h x (List·Memᴰ·tail m)))
+
+  pub of-all : {x : A} (xs : List A) → all p xs ≡ true → x ∈ xs → p x ≡ true
+  of-all [] h m = absurd (List·Memᴰ·not-nil m)
+  of-all (y ∷ ys) h (List·Memᴰ·head e) = ap p e ∙ and-eq-true-iff (p y) (all p ys) .0 h .0
+  of-all (y ∷ ys) h (List·Memᴰ·tail m) = of-all ys (and-eq-true-iff (p y) (all p ys) .0 h .1) m
 
   pub length-those : (xs : List A) → length (those p xs) ≡ count p xs
   length-those [] = refl
@@ -115,13 +125,23 @@ module _ {A : Type 0} (above : A → A → Bool) where
       let o = a y (List·Memᴰ·head refl) e in
       rw e (λ z m. falling-one x y ys o (λ w n. s .onward x y w o (h .0 w n)) m, h))
 
+  falling-put : (y : A) (b : Bool) (l : List A) → ((z : A) → z ∈ l → above y z ≡ true) → Falling above l → Falling above (put b y l)
+  falling-put y true l h k = (h, k)
+  falling-put y false l h k = k
+
   pub falling-those : (p : A → Bool) (xs : List A) → Falling above xs → Falling above (those p xs)
   falling-those p [] h = tt
-  falling-those p (y ∷ ys) h = go (p y) (falling-those p ys (h .1))
-    where
-      go : (b : Bool) → Falling above (those p ys) → Falling above (put b y (those p ys))
-      go true k = (λ z m. h .0 z (mem-those p ys m .0), k)
-      go false k = k
+  falling-those p (y ∷ ys) h = falling-put y (p y) (those p ys) (λ z m. h .0 z (mem-those p ys m .0)) (falling-those p ys (h .1))
+
+  pub falling-sift : (vs : List (View A)) (xs : List A) → Falling above xs → Falling above (sift vs xs)
+  falling-sift vs [] h = tt
+  falling-sift vs (y ∷ ys) h =
+      falling-put y (shows vs y) (sift (pass y vs) ys) (λ z m. h .0 z (sift-mem (pass y vs) ys m)) (falling-sift (pass y vs) ys (h .1))
+
+  -- A falling list is ranked.
+  pub falling-ranks : Strict above → (xs : List A) → Falling above xs → Ranked above xs
+  falling-ranks s [] h = tt
+  falling-ranks s (y ∷ ys) h = (λ z m x e. s .onward y z x (h .0 z m) e, falling-ranks s ys (h .1))
 
   -- In a falling list those before an element are those above it
 

@@ -46,6 +46,24 @@ none-given (r ∷ rs) x a e =
     (λ t. let clash = rw t at e in let z : _≡_ {A = ℕ} 0 1 = cc in absurd (omega arith))
     (λ f. let s = none-given rs x a (rw f at e) in ((f, s .0), s .1))
 
+-- A call is refused with one number, whatever it would give back, or no rule is given and it is accepted.
+pub record Denied (rs : List Rule) : Type 1 where
+  pub no : ℕ
+  pub same : (A : Type 0) (refuse : ℕ → A) (accept : A) → judged rs refuse accept ≡ refuse no
+
+pub record Granted (rs : List Rule) : Type 1 where
+  pub none : None rs
+  pub same : (A : Type 0) (refuse : ℕ → A) (accept : A) → judged rs refuse accept ≡ accept
+
+pub judged-cases : (rs : List Rule) → Denied rs ⊎ Granted rs
+judged-cases [] = inr (record { none = tt; same = λ A refuse accept. refl })
+judged-cases (r ∷ rs) = go (r .given) refl (judged-cases rs)
+  where
+    go : (t : Bool) → r .given ≡ t → Denied rs ⊎ Granted rs → Denied (r ∷ rs) ⊎ Granted (r ∷ rs)
+    go true e h = inl (record { no = r .no; same = λ A refuse accept. rw e })
+    go false e (inl h) = inl (record { no = h .no; same = λ A refuse accept. rw e (h .same A refuse accept) })
+    go false e (inr h) = inr (record { none = (e, h .none); same = λ A refuse accept. rw e (h .same A refuse accept) })
+
 module _ (d : Desk) where
   pub in-order : disorder d ≡ false → InOrder d
   unfolding disorder

@@ -1,0 +1,1 @@
+// Runs of calls, and the theorems about them; no code.
