@@ -2,7 +2,9 @@
 use mathlib.Core.Path.{_≡_, refl, ap, _∙_}
 use mathlib.Core.List.{List, [], _∷_, map}
 use mathlib.Core.Bool.{Bool, true, false, _||_}
-use Rattle.lists.specs.Views.{View, along, put, those, sees, shows, spend, pass, sift}
+use Prim.Native.Nat.{ℕ, zero, suc}
+use lib.ListN.{take}
+use Rattle.lists.specs.Views.{View, along, put, those, first, sees, shows, spend, pass, sift}
 
 module _ {A B : Type 0} (f : A → B) where
   map-put : (b : Bool) (x : A) (xs : List A) → map f (put b x xs) ≡ put b (f x) (map f xs)
@@ -28,3 +30,11 @@ module _ {A B : Type 0} (f : A → B) where
       map-put (shows vs (f x)) x (sift (map (along f) (pass (f x) vs)) xs)
       ∙ ap (put (shows vs (f x)) (f x)) (map-sift (pass (f x) vs) xs)
       )
+
+  pub map-take : (n : ℕ) (xs : List A) → map f (take n xs) ≡ take n (map f xs)
+  map-take zero xs = refl
+  map-take (suc n) [] = refl
+  map-take (suc n) (x ∷ xs) = ap (λ l. f x ∷ l) (map-take n xs)
+
+  pub map-first : (v : View B) (xs : List A) → map f (first (along f v) xs) ≡ first v (map f xs)
+  map-first v xs = map-take (v .cap) (those (λ x. v .inside (f x)) xs) ∙ ap (take (v .cap)) (map-those (v .inside) xs)

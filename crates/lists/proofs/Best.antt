@@ -51,6 +51,10 @@ module _ {A : Type 0} (p : A → Bool) where
   count-those q [] = refl
   count-those q (y ∷ ys) = by (q y) (λ e. rw (e, count-those q ys)) (λ e. rw e (count-those q ys))
 
+  pub those-none : (xs : List A) → ((x : A) → x ∈ xs → p x ≡ false) → those p xs ≡ []
+  those-none [] h = refl
+  those-none (x ∷ xs) h = rw (h x (List·Memᴰ·head refl)) (those-none xs (λ y m. h y (List·Memᴰ·tail m)))
+
   pub those-fewer : (xs : List A) → length (those p xs) ≤ length xs
   those-fewer [] = omega arith
   those-fewer (x ∷ xs) = let r = those-fewer xs in by (p x) (λ e. rw e (omega arith)) (λ e. rw e (omega arith))

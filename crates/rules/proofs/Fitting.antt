@@ -7,10 +7,13 @@ use Prim.Native.Nat.{ℕ, _+_, _*_, _≤_}
 use native.Mathlib.Omega.{arith}
 use native.Mathlib.Nat.{mul-le-mul, le-trans}
 use borrow.Author.Tests.{leb-true, le-leb}
+use lib.Dec.{leb}
 use lib.ListN.{length}
 use Rattle.lists.specs.Views.{all}
-use Rattle.rules.specs.Desk.{within, need, needs, BoardFits, boardFits}
+use Rattle.rules.specs.Desk.{within, need, needs, BoardFits, boardFits, requestFits}
+use Rattle.rules.specs.Refusals.{entryFits}
 use Rattle.rules.specs.declared.Board.{Board}
+use Rattle.rules.specs.declared.Entry.{Entry}
 use Rattle.rules.proofs.MomentLaw.{rounded-small}
 
 in-range : (low high n : ℕ) → within low high n ≡ true → (low ≤ n) × (n ≤ high)
@@ -44,3 +47,10 @@ pub needs-small : (bs : List Board) → all boardFits bs ≡ true → needs bs �
 unfolding needs
 needs-small [] e = omega arith
 needs-small (b ∷ bs) e = let h = and-eq-true-iff _ _ .0 e in omega (arith, need-small b (h .0), needs-small bs (h .1))
+
+pub entry-fits : (clock : ℕ) (e : Entry) → (entryFits clock e ≡ true) ↔ ((requestFits (e .topic) (e .score) ≡ true) × (e .tick ≤ clock))
+unfolding entryFits
+entry-fits clock e = (
+  λ h. let k = and-eq-true-iff (requestFits (e .topic) (e .score)) (leb (e .tick) clock) .0 h in (k .0, leb-true _ _ (k .1)),
+  λ h. rw (h .0, le-leb (e .tick) clock (h .1)),
+)

@@ -1,2 +1,5 @@
 pub mod Agreeing
 pub mod Calling
+pub mod Settling
+pub mod Requesting
+pub mod Stepping
