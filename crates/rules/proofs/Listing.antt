@@ -1,21 +1,21 @@
 -- The list's rule in document 01's words and as a walk over the views at the clock: both name the same requests, and never more than the sum of needs.
 use mathlib.Core.Path.{_≡_, refl, sym, ap, subst, _∙_}
-use mathlib.Core.List.{List, [], _∷_, _++_, map, List·Memᴰ·head, List·Memᴰ·tail, List·Memᴰ·not-nil, List·Memᴰ·append-cases, Memᴰ·append-left, Memᴰ·append-right, Memᴰ·map, Memᴰ·of-map}
+use mathlib.Core.List.{List, [], _∷_, _++_, map, List·Memᴰ·head, List·Memᴰ·tail, List·Memᴰ·not-nil, List·Memᴰ·append-cases, Memᴰ·append-left, Memᴰ·append-right, List·Memᴰ·eq-of-singleton, Memᴰ·map, Memᴰ·of-map}
 use mathlib.Core.Bool.{true, _&&_}
 use mathlib.Core.Logic.{inl, inr, _↔_}
 use Prim.Native.Nat.{ℕ, _+_, _*_, _≤_, _<_}
 use native.Mathlib.Omega.{arith}
 use native.Mathlib.Nat.{mul-comm, mul-le-mul-right}
 use lib.ListN.{length}
-use Rattle.lists.specs.Views.{View, _∈_, along, those, count, keep, sift, caps}
+use Rattle.lists.specs.Views.{View, _∈_, along, those, first, count, keep, sift, caps}
 use Rattle.lists.specs.Order.{ranked, Needed}
 use Rattle.lists.proofs.Quota.{keep-sift}
-use Rattle.lists.proofs.Laws.{room}
+use Rattle.lists.proofs.Laws.{room, first-sift}
 use Rattle.lists.proofs.Best.{count-those, count-ranked, ranked-mem, keep-exactly}
 use Rattle.lists.proofs.Along.{map-sift}
 use Rattle.lists.proofs.Nested.{caps-append}
 use Rattle.rules.specs.Desk.{need, needs}
-use Rattle.rules.specs.Moments.{moments, inWindow, Accepted, entryOf, better, InTurn, windowOf}
+use Rattle.rules.specs.Moments.{moments, inWindow, Accepted, entryOf, better, InTurn, windowOf, answer}
 use Rattle.rules.specs.SharedList.{FutureView, ShownIn, OnList, viewAt, views, named}
 use Rattle.rules.specs.Cells.{cells}
 use Rattle.rules.specs.declared.Board.{Board}
@@ -63,6 +63,24 @@ module _ (boards : List Board) (n : ℕ) (xs : List Accepted) where
       count-those (λ y. better y x) (λ y. inWindow b T (y .entry)) (ranked better xs)
       ∙ count-ranked better (λ y. inWindow b T (y .entry) && better y x) xs
       ∙ sym (count-those (λ y. better y x) (λ y. inWindow b T (y .entry)) xs)
+
+  -- What an answer shows: the requests in its window with fewer than k better ones there.
+  pub answer-shown : {x : Accepted} (b : Board) (T : ℕ) → InTurn xs → (x ∈ answer b T xs) ↔ ((x ∈ xs) × ShownIn b T xs x)
+  unfolding answer
+  answer-shown {x} b T turn =
+      let v = along entryOf (viewAt b T) in
+      let all = ranked better xs in
+      let k = keep-exactly better better-strict (v ∷ []) all (falling-ranked xs turn) in
+      let e : keep (v ∷ []) [] all ≡ first v all = keep-sift (v ∷ []) all ∙ sym (first-sift v all) in (
+        λ m.
+            let r = k .0 (subst (λ l. x ∈ l) (sym e) m) in
+            let t = r .1 in
+            let s = subst (λ (u : View Accepted). (u .inside x ≡ true) × (count (λ y. better y x) (those (u .inside) all) < u .cap)) (List·Memᴰ·eq-of-singleton (t .1)) (t .2, t .3) in
+            (ranked-mem better xs .0 (r .0), record { inside = in-window b T (x .entry) .0 (s .0); few = omega (arith, s .1, same-few b T x) }),
+        λ r.
+            subst (λ l. x ∈ l) e
+            (k .1 (ranked-mem better xs .1 (r .0), (v, List·Memᴰ·head refl, in-window b T (x .entry) .1 (r .1 .inside), omega (arith, r .1 .few, same-few b T x)))),
+      )
 
   on-needed : {x : Accepted} → OnList boards n xs x → Needed better seen (ranked better xs) x
   on-needed {x} o =

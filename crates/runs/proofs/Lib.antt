@@ -3,3 +3,5 @@ pub mod Calling
 pub mod Settling
 pub mod Requesting
 pub mod Stepping
+pub mod Running
+pub mod Refusing

@@ -98,8 +98,7 @@ module _ (l : Ledger) (s : Sound l) where
       let f = r .2 in
       let e : along entryOf (viewAt (r .0) (r .1)) ≡ v = ap (along entryOf) (sym (r .3)) ∙ u .2 in
       let w = in-window (r .0) (r .1) (x .entry) .0 (ap (λ (z : View Accepted). z .inside x) e ∙ i) in
-      let tick = past (ranked-mem better (l .requests) .0 k) in
-      (
+      let tick = past (ranked-mem better (l .requests) .0 k) in (
         v,
         subst (λ (z : View Accepted). z ∈ seen (l .boards) (l .time .clock)) e
             (seen-mem (record { board = f .board; moment = f .moment; above = omega (arith, f .above); near = omega (arith, w .reaches) })),
