@@ -5,3 +5,5 @@ pub mod Requesting
 pub mod Stepping
 pub mod Running
 pub mod Refusing
+pub mod Continuing
+pub mod Proved
