@@ -1,7 +1,42 @@
--- What the calls give back, in document 01's terms: the reply and the desk.
-use Rattle.rules.specs.Calls.{Outcome}
-use Rattle.rules.specs.Replies.{asked}
+-- What the calls give back, in document 01's terms: the reply, the desk, and of a step the slice.
+use mathlib.Core.List.{List}
+use Prim.Native.Nat.{ℕ}
+use Rattle.rules.specs.Calls.{Outcome, StepOutcome, MessageOutcome}
+use Rattle.rules.specs.Replies.{asked, stepped, answered}
+use Rattle.rules.specs.declared.Desk.{Desk}
+use Rattle.rules.specs.declared.Asked.{Asked}
+use Rattle.rules.specs.declared.Stepped.{Stepped}
+use Rattle.rules.specs.declared.Answered.{Answered}
+use Rattle.walk.specs.Walk.{thinnedTo}
+use Rattle.reply.specs.Written.{wrote}
 use Rattle.desk.specs.declared.Called.{Called}
+use Rattle.desk.specs.declared.Moved.{Moved}
+use Rattle.desk.specs.declared.Taken.{Taken}
 
 abbrev pub called : Called → Outcome Unit
 called r = record { reply = asked (r .answer); desk = r .desk }
+
+abbrev pub stepOutcome : Moved → List ℕ → StepOutcome
+stepOutcome r slice = record { reply = stepped (r .answer); desk = r .desk; slice = slice }
+
+-- a step that moves the clock, by what the walk and the reply promise of any desk
+abbrev pub movedBy : Desk → ℕ → ℕ → Moved
+movedBy d T room = record { desk = thinnedTo d T; answer = Stepped.Reached T (wrote d T room .due) (wrote d T room .words) }
+
+abbrev pub taken : Taken → List ℕ → MessageOutcome
+taken r slice = record { reply = answered (r .answer); desk = r .desk; slice = slice }
+
+-- a call's answer as a message's
+abbrev pub fromAsked : Asked → Answered
+fromAsked Asked.Accepted = Answered.Accepted
+fromAsked (Asked.Refused r) = Answered.Refused r
+
+abbrev pub takenFrom : Called → Taken
+takenFrom c = record { desk = c .desk; answer = fromAsked (c .answer) }
+
+abbrev pub fromStepped : Stepped → Answered
+fromStepped (Stepped.Reached clock due words) = Answered.Reached clock due words
+fromStepped (Stepped.Refused r) = Answered.Refused r
+
+abbrev pub takenBy : Moved → Taken
+takenBy c = record { desk = c .desk; answer = fromStepped (c .answer) }

@@ -1,23 +1,40 @@
 // The desk and its calls. A desk goes in by value and comes back by value, with the answer beside it.
 ghost use mathlib.Core.Path.{_≡_};
 ghost use Prim.Native.Nat.{_≤_, min};
+ghost use lib.ListN.{length};
 ghost use Rattle.rules.specs.Desk.{fresh as freshDesk, loaded};
 ghost use Rattle.rules.specs.Moments.{reached as reachedBy};
-ghost use Rattle.rules.specs.Calls.{lengthCall, placeCall, boardCall, openCall};
-ghost use Rattle.rules.specs.Replies.{measured, found};
-ghost use Rattle.desk.specs.Outcomes.{called};
+ghost use Rattle.rules.specs.Calls.{lengthCall, placeCall, boardCall, openCall, requestCall, stepCall, messageCall};
+ghost use Rattle.rules.specs.Calls.Reply.{refused as refusedWith};
+ghost use Rattle.rules.specs.Refusals.{judged, kindRules};
+ghost use Rattle.rules.specs.Replies.{measured, found, answered};
+ghost use Rattle.reply.specs.Written.{blocksInto};
+ghost use Rattle.desk.specs.Outcomes.{called, stepOutcome, movedBy, taken, takenFrom, takenBy};
+use rules::Answered;
 use rules::Asked;
 use rules::Board;
 use rules::Desk;
 use rules::Entry;
 use rules::Found;
 use rules::Measured;
+use rules::Message;
 use rules::Refusal;
+use rules::Stepped;
 use rules::Time;
 
 pub struct Called {
     pub desk: Desk,
     pub answer: Asked,
+}
+
+pub struct Moved {
+    pub desk: Desk,
+    pub answer: Stepped,
+}
+
+pub struct Taken {
+    pub desk: Desk,
+    pub answer: Answered,
 }
 
 // A loading desk with no board, at clock 0.
@@ -149,4 +166,160 @@ fn reached(desk: Desk, target: u32) -> u32
         i += 1;
     }
     at
+}
+
+// A request at the desk's clock. It answers only that it was accepted.
+pub fn request(desk: Desk, topic: u32, id: u32, score: u32) -> Called
+    ensures { λ r. ⌜ called r ≡ requestCall desk topic id score ⌝ }
+{
+    if order::in_disorder(desk) {
+        return refused(desk, Refusal::Disorder);
+    }
+    if rules::request_fits(topic, score) {
+        if desk.time.phase == 1 {
+            let e = Entry {
+                id,
+                score,
+                tick: desk.time.clock,
+                topic,
+            };
+            let next = walk::with_entry(desk, e);
+            return Called {
+                desk: next,
+                answer: Asked::Accepted,
+            };
+        }
+        return refused(desk, Refusal::Phase);
+    }
+    refused(desk, Refusal::Range)
+}
+
+fn denied(desk: Desk, refusal: Refusal) -> Moved
+    ensures { λ r. ⌜ r ≡ record { desk = desk; answer = Stepped.Refused refusal } ⌝ }
+{
+    Moved {
+        desk,
+        answer: Stepped::Refused(refusal),
+    }
+}
+
+// A step that moves the clock: the answers of all boards due, and the list that is still needed then.
+fn move_on(desk: Desk, at: u32, reply: &mut [u32]) -> Moved
+    ensures { λ r. ⌜ (r ≡ movedBy desk at (length (now (reply .entry)))) × (now (reply .exit) ≡ blocksInto desk at (now (reply .entry))) ⌝ }
+{
+    let wrote = reply::write_blocks(desk, at, reply);
+    let next = walk::thinned(desk, at);
+    Moved {
+        desk: next,
+        answer: Stepped::Reached {
+            clock: at,
+            due: wrote.due,
+            words: wrote.words,
+        },
+    }
+}
+
+// Step to the earliest moment above the clock and not above the target, or to the target.
+pub fn step(desk: Desk, target: u32, reply: &mut [u32]) -> Moved
+    ensures { λ r. ⌜ stepOutcome r (now (reply .exit)) ≡ stepCall desk target (now (reply .entry)) ⌝ }
+{
+    let clock = desk.time.clock;
+    if order::in_disorder(desk) {
+        return denied(desk, Refusal::Disorder);
+    }
+    if 1000000000 < target {
+        return denied(desk, Refusal::Range);
+    }
+    if desk.time.phase != 1 {
+        return denied(desk, Refusal::Phase);
+    }
+    if target < clock {
+        return denied(desk, Refusal::Past);
+    }
+    if reply.len() < reply::reply_need(desk) {
+        return denied(desk, Refusal::Reply);
+    }
+    if target == clock {
+        return Moved {
+            desk,
+            answer: Stepped::Reached {
+                clock,
+                due: 0,
+                words: 0,
+            },
+        };
+    }
+    move_on(desk, reached(desk, target), reply)
+}
+
+fn asked(call: Called) -> Taken
+    ensures { λ r. ⌜ r ≡ takenFrom call ⌝ }
+{
+    let desk = call.desk;
+    let answer = call.answer;
+    match answer {
+        Asked::Accepted => Taken {
+            desk,
+            answer: Answered::Accepted,
+        },
+        Asked::Refused(refusal) => Taken {
+            desk,
+            answer: Answered::Refused(refusal),
+        },
+    }
+}
+
+fn stepped(call: Moved) -> Taken
+    ensures { λ r. ⌜ r ≡ takenBy call ⌝ }
+{
+    let desk = call.desk;
+    let answer = call.answer;
+    match answer {
+        Stepped::Reached { clock, due, words } => Taken {
+            desk,
+            answer: Answered::Reached { clock, due, words },
+        },
+        Stepped::Refused(refusal) => Taken {
+            desk,
+            answer: Answered::Refused(refusal),
+        },
+    }
+}
+
+fn unknown(desk: Desk) -> Taken
+    ensures { λ r. ⌜ answered (r .answer) ≡ judged (kindRules desk) refusedWith (refusedWith 4) ⌝ }
+    ensures { λ r. ⌜ r .desk ≡ desk ⌝ }
+{
+    if order::in_disorder(desk) {
+        return Taken {
+            desk,
+            answer: Answered::Refused(Refusal::Disorder),
+        };
+    }
+    Taken {
+        desk,
+        answer: Answered::Refused(Refusal::Kind),
+    }
+}
+
+// Take a message: the call that its kind names.
+pub fn take(desk: Desk, message: Message, reply: &mut [u32]) -> Taken
+    ensures { λ r. ⌜ taken r (now (reply .exit)) ≡ messageCall desk message (now (reply .entry)) ⌝ }
+{
+    let kind = message.kind;
+    match kind {
+        1 => asked(load(
+            desk,
+            Board {
+                mask: message.byte,
+                window: message.first,
+                slide: message.second,
+                k: message.third,
+            },
+        )),
+        2 => asked(request(desk, message.byte, message.first, message.second)),
+        3 => asked(open(desk)),
+        4 => stepped(step(desk, message.first, reply)),
+        0 | 5..=4294967295 => unknown(desk),
+    }
 }

@@ -1,15 +1,16 @@
 -- Boards in range: the test is its sentence, and their needs are small.
 use mathlib.Core.Path.{_≡_}
-use mathlib.Core.List.{List, [], _∷_, List·Memᴰ·head, List·Memᴰ·tail}
+use mathlib.Core.List.{List, [], _∷_}
 use mathlib.Core.Bool.{true, _&&_, and-eq-true-iff}
 use mathlib.Core.Logic.{_↔_}
-use Prim.Native.Nat.{ℕ, _+_, _*_, _≤_}
+use Prim.Native.Nat.{ℕ, _+_, _*_, _≤_, _<_}
 use native.Mathlib.Omega.{arith}
 use native.Mathlib.Nat.{mul-le-mul, le-trans}
 use borrow.Author.Tests.{leb-true, le-leb}
 use lib.Dec.{leb}
 use lib.ListN.{length}
-use Rattle.lists.specs.Views.{all}
+use Rattle.lists.specs.Views.{_∈_, all}
+use Rattle.lists.proofs.Best.{of-all}
 use Rattle.rules.specs.Desk.{within, need, needs, BoardFits, boardFits, requestFits}
 use Rattle.rules.specs.Refusals.{entryFits}
 use Rattle.rules.specs.declared.Board.{Board}
@@ -38,6 +39,9 @@ board-fits b = (
         le-leb (b .k) 256 (f .k .1),
       ),
 )
+
+pub all-slide : {b : Board} (bs : List Board) → all boardFits bs ≡ true → b ∈ bs → 0 < b .slide
+all-slide {b} bs e m = board-fits b .0 (of-all boardFits bs e m) .slide .0
 
 pub need-small : (b : Board) → boardFits b ≡ true → need b ≤ 22118400
 unfolding need

@@ -47,6 +47,11 @@ reached-is n target fits (b ∷ bs) slide =
     let k : reached bs n target ≤ moment b (upto b n) = omega arith in
     rw (min-eq-right k) (others-first n target fits b bs (reached bs n target) rest h))
 
+-- A step never goes back.
+pub reached-from : (n target : ℕ) → n ≤ target → target ≤ limit → (boards : List Board) → ((b : Board) → b ∈ boards → 0 < b .slide) → n ≤ reached boards n target
+reached-from n target h fits boards slide =
+    elim (reached-is n target fits boards slide .stop) [ inl e ↦ omega (arith, e) | inr m ↦ omega (arith, m .3) ]
+
 pub reached-at-most : (boards : List Board) (n target : ℕ) → reached boards n target ≤ target
 unfolding reached
 reached-at-most [] n target = omega arith

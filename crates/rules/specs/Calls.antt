@@ -5,11 +5,11 @@ use Prim.Native.Nat.{ℕ, suc, _+_}
 use lib.Dec.{eqb}
 use lib.ListN.{length, getD, set, drop}
 use Rattle.lists.specs.Views.{count, first}
-use Rattle.rules.specs.Desk.{loaded, listed, noEntry}
-use Rattle.rules.specs.Messages.{message}
+use Rattle.rules.specs.Desk.{within, loaded, listed, noEntry}
+use Rattle.rules.specs.Messages.{byKind, message, boardOf}
 use Rattle.rules.specs.Moments.{isMoment, reached}
 use Rattle.rules.specs.SharedList.{viewAt, named, placed, settled}
-use Rattle.rules.specs.Refusals.{judged, readerRules, boardRules, openRules, requestRules, stepRules, lengthRules, placeRules}
+use Rattle.rules.specs.Refusals.{judged, readerRules, boardRules, openRules, requestRules, stepRules, lengthRules, placeRules, kindRules}
 use Rattle.rules.specs.declared.Board.{Board}
 use Rattle.rules.specs.declared.Entry.{Entry}
 use Rattle.rules.specs.declared.Message.{Message}
@@ -125,3 +125,34 @@ stepCall d target slice =
     judged (stepRules d target (length slice))
     (λ n. record { reply = refused n; desk = d; slice = slice })
     (cond (eqb target (d .time .clock)) (stays d slice) (movedTo d (reached (loaded d) (d .time .clock) target) slice))
+
+-- A message for the desk: the call that its kind names. Where it names none, 4, and 99 before it.
+
+pub data Done : Type 0 where
+  done : Done
+  moved : Steps → Done
+
+pub record MessageOutcome : Type 0 where
+  pub reply : Reply Done
+  pub desk : Desk
+  pub slice : List ℕ
+
+abbrev pub onward : {A : Type 0} → (A → Done) → Reply A → Reply Done
+onward f (refused n) = refused n
+onward f (accepted a) = accepted (f a)
+
+abbrev pub askedBy : List ℕ → Outcome Unit → MessageOutcome
+askedBy slice o = record { reply = onward (λ _. done) (o .reply); desk = o .desk; slice = slice }
+
+abbrev pub steppedBy : StepOutcome → MessageOutcome
+steppedBy o = record { reply = onward moved (o .reply); desk = o .desk; slice = o .slice }
+
+unfoldable pub messageCall : Desk → Message → List ℕ → MessageOutcome
+messageCall d m slice =
+    cond (within 1 4 (m .kind))
+    (byKind (m .kind)
+    (askedBy slice (boardCall d (boardOf m)))
+    (askedBy slice (requestCall d (m .byte) (m .first) (m .second)))
+    (askedBy slice (openCall d))
+    (steppedBy (stepCall d (m .first) slice)))
+    (record { reply = judged (kindRules d) refused (refused 4); desk = d; slice = slice })

@@ -115,3 +115,7 @@ lengthRules d = 99 when disorder d ∷ []
 
 abbrev pub placeRules : Desk → ℕ → List Rule
 placeRules d at = 99 when disorder d ∷ 13 when leb (d .len) at ∷ []
+
+-- a message of no known kind
+abbrev pub kindRules : Desk → List Rule
+kindRules d = 99 when disorder d ∷ []

@@ -1,6 +1,7 @@
 -- For each answer that is an enum in the code: this paper's number and values for each case.
 use Prim.Native.Nat.{ℕ}
-use Rattle.rules.specs.Calls.{Reply, Steps}
+use Rattle.rules.specs.Calls.{Reply, Steps, Done}
+use Rattle.rules.specs.Calls.Done.{done, moved}
 use Rattle.rules.specs.Calls.Reply.{refused, accepted}
 use Rattle.rules.specs.declared.Entry.{Entry}
 use Rattle.rules.specs.declared.Message.{Message}
@@ -10,6 +11,7 @@ use Rattle.rules.specs.declared.Stepped.{Stepped}
 use Rattle.rules.specs.declared.Measured.{Measured}
 use Rattle.rules.specs.declared.Found.{Found}
 use Rattle.rules.specs.declared.Read.{Read}
+use Rattle.rules.specs.declared.Answered.{Answered}
 
 abbrev pub number : Refusal → ℕ
 number Refusal.Short = 1
@@ -46,3 +48,8 @@ found (Found.Refused r) = refused (number r)
 abbrev pub read : Read → Reply Message
 read (Read.Message m) = accepted m
 read (Read.Refused r) = refused (number r)
+
+abbrev pub answered : Answered → Reply Done
+answered Answered.Accepted = accepted done
+answered (Answered.Reached clock due words) = accepted (moved (record { clock = clock; due = due; words = words }))
+answered (Answered.Refused r) = refused (number r)

@@ -89,6 +89,13 @@ pub enum Read {
     Refused(Refusal),
 }
 
+// To a message: what its kind's call answers.
+pub enum Answered {
+    Accepted,
+    Reached { clock: u32, due: u32, words: u32 },
+    Refused(Refusal),
+}
+
 // Topics are 0 to 7; a mask of 0 names all eight.
 pub fn names(board: Board, topic: u32) -> bool
     ensures { λ r. ⌜ r ≡ namesOf board topic ⌝ }

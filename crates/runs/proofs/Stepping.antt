@@ -14,9 +14,9 @@ use Rattle.lists.specs.Order.{ranked}
 use Rattle.lists.proofs.Bools.{by, clash, untrue}
 use Rattle.lists.proofs.Quota.{keep-sift}
 use Rattle.lists.proofs.Laws.{step as stepLaw, answers}
-use Rattle.lists.proofs.Best.{those-none, ranked-mem, of-all}
+use Rattle.lists.proofs.Best.{those-none, ranked-mem}
 use Rattle.lists.proofs.Along.{map-sift, map-first}
-use Rattle.rules.specs.Desk.{limit, boardFits}
+use Rattle.rules.specs.Desk.{limit}
 use Rattle.rules.specs.Moments.{Moment, isMoment, inWindow, Accepted, entryOf, better, answer, Reached, reached}
 use Rattle.rules.specs.SharedList.{FutureView, viewAt, views, named}
 use Rattle.rules.specs.Refusals.{Rule, judged}
@@ -25,11 +25,11 @@ use Rattle.rules.specs.Calls.Reply.{refused, accepted}
 use Rattle.rules.specs.declared.Board.{Board}
 use Rattle.rules.specs.declared.Desk.{Desk}
 use Rattle.rules.proofs.Refusing.{None, Denied, Granted, judged-cases}
-use Rattle.rules.proofs.Fitting.{board-fits, entry-fits}
+use Rattle.rules.proofs.Fitting.{all-slide, entry-fits}
 use Rattle.rules.proofs.MomentLaw.{is-moment}
 use Rattle.rules.proofs.Ranks.{in-window}
 use Rattle.rules.proofs.Listing.{views-mem, mem-views}
-use Rattle.rules.proofs.Stepping.{reached-is}
+use Rattle.rules.proofs.Stepping.{reached-is, reached-from}
 use Rattle.runs.specs.Runs.{Said}
 use Rattle.runs.specs.Runs.Call.{step}
 use Rattle.runs.specs.Runs.Said.{stepped}
@@ -44,13 +44,12 @@ module _ (l : Ledger) (s : Sound l) where
   past {x} m = entry-fits (l .time .clock) (x .entry) .0 (s .entered x m) .1
 
   pub slides : (b : Board) → b ∈ l .boards → 0 < b .slide
-  slides b m = board-fits b .0 (of-all boardFits (l .boards) (s .fits) m) .slide .0
+  slides b m = all-slide (l .boards) (s .fits) m
 
   -- where a step to a target not below the clock stops
   pub stops : (target : ℕ) → l .time .clock ≤ target → target ≤ limit → Reached (l .boards) (l .time .clock) target (stop l target) × (l .time .clock ≤ stop l target)
   stops target h k =
-      let r = reached-is (l .time .clock) target k (l .boards) slides in
-      (r, elim (r .stop) [ inl e ↦ omega (arith, e) | inr m ↦ omega (arith, m .3) ])
+      (reached-is (l .time .clock) target k (l .boards) slides, reached-from (l .time .clock) target h k (l .boards) slides)
 
   -- A due board shows of the list what it shows of all requests.
 

@@ -1,0 +1,82 @@
+-- Each answer is by the first rule that is given; the list is what the rule names.
+use Rattle.rules.specs.Calls.{requestCall, entryAt}
+use mathlib.Core.Path.{_≡_, refl, sym, ap, _∙_}
+use mathlib.Core.Bool.{true, false}
+use native.Mathlib.Omega.{arith}
+use borrow.Author.Tests.{lt-ltb, le-ltb, eq-eqb, ne-eqb, lt-leb, le-leb}
+use Rattle.rules.specs.Refusals.{disorder}
+use Rattle.rules.proofs.Refusing.{in-order}
+use Rattle.rules.specs.Desk.{requestFits}
+use Rattle.desk.proofs.Keeping.{entry-named}
+use borrow.Author.Needs.{needs}
+use Rattle.desk.proofs.request.Statement.{statement}
+use Rattle.desk.proofs.request.Tie as tie
+
+in-disorder-requires : tie.Need-in-disorder-requires
+in-disorder-requires c κs = search needs
+
+refused-requires : tie.Need-refused-requires
+refused-requires c κs = search needs
+
+returns : tie.Need-returns
+unfolding requestCall
+returns c =
+    let a = c .before .before .before .args in
+    let d = a .desk in
+    let o : disorder d ≡ true = cc in
+    rw (c .refused .ensures, o)
+
+request-fits-requires : tie.Need-request-fits-requires
+request-fits-requires c κs = search needs
+
+with-entry-requires : tie.Need-with-entry-requires
+with-entry-requires c κs = search needs
+
+returns-2 : tie.Need-returns-2
+unfolding requestCall
+returns-2 c =
+    let a = c .before .before .before .before .before .before .before .args in
+    let d = a .desk in
+    let o : disorder d ≡ false = cc in
+    let f : requestFits (a .topic) (a .score) ≡ true = cc in
+    let named = entry-named d (in-order d o) (entryAt d (a .topic) (a .id) (a .score)) refl in
+    rw (c .with-entry .ensures, o, f, eq-eqb _ _ (c .before .if3 .taken), named)
+
+refused-requires-2 : tie.Need-refused-requires-2
+refused-requires-2 c κs = search needs
+
+returns-3 : tie.Need-returns-3
+unfolding requestCall
+returns-3 c =
+    let a = c .before .before .before .before .before .before .before .args in
+    let d = a .desk in
+    let o : disorder d ≡ false = cc in
+    let f : requestFits (a .topic) (a .score) ≡ true = cc in
+    rw (c .refused2 .ensures, o, f, ne-eqb _ _ (c .before .if3 .left))
+
+refused-requires-3 : tie.Need-refused-requires-3
+refused-requires-3 c κs = search needs
+
+returns-4 : tie.Need-returns-4
+unfolding requestCall
+returns-4 c =
+    let a = c .before .before .before .before .before .args in
+    let d = a .desk in
+    let o : disorder d ≡ false = cc in
+    let f : requestFits (a .topic) (a .score) ≡ false = cc in
+    rw (c .refused3 .ensures, o, f)
+
+pub request-spec : {M : Type 1} → statement M
+request-spec =
+    tie.close
+    (tie.spec
+    in-disorder-requires
+    refused-requires
+    returns
+    request-fits-requires
+    with-entry-requires
+    returns-2
+    refused-requires-2
+    returns-3
+    refused-requires-3
+    returns-4)

@@ -1,0 +1,5 @@
+pub mod Lists
+pub mod Walkable
+pub mod Counting
+pub mod Sifting
+pub mod Walking

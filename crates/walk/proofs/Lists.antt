@@ -1,0 +1,109 @@
+-- Laws of lists of any elements: the rest of a front part, and `onFront`, which changes a front part and nothing behind it.
+use mathlib.Core.Path.{_≡_, refl, sym, ap, _∙_}
+use mathlib.Core.List.{List, [], _∷_, _++_, map, append-assoc}
+use Prim.Native.Nat.{ℕ, zero, suc, _+_, _-_, _≤_, _<_, min}
+use native.Mathlib.Omega.{arith}
+use native.Mathlib.Numerals.{add-one}
+use native.Mathlib.Nat.{le-of-suc-le-suc, not-suc-le-zero, zero-min, min-zero, suc-min-suc}
+use borrow.Author.Tests.{leb-true, leb-false}
+use lib.Dec.{leb}
+use lib.ListN.{length, take, drop, getD, set, replicate, drop-of-length-le, take-append-drop, length-replicate, replicate-append-replicate}
+use lib.Seq.{drop-cons, length-take-le, getD-take, take-suc-set, drop-set-lt, append-snoc, take-append-add, drop-append-add, drop-append-le, take-at, drop-at, drop-drop}
+use Rattle.lists.specs.Nested.{onFront}
+use Rattle.lists.proofs.Bools.{by}
+use Rattle.walk.specs.Counts.{from}
+
+module _ {A : Type 0} where
+  -- the first n of a list, from place i on
+  pub rest-cons : (l : List A) (n i : ℕ) (d : A) → i < n → n ≤ length l → drop i (take n l) ≡ getD l i d ∷ drop (i + 1) (take n l)
+  rest-cons l n i d h k =
+      let m : i < length (take n l) = rw (length-take-le n l k) h in
+      rw (add-one, drop-cons (take n l) i d m, getD-take n l i d h)
+
+  pub rest-nil : (l : List A) (n i : ℕ) → n ≤ i → n ≤ length l → drop i (take n l) ≡ []
+  rest-nil l n i h k = drop-of-length-le (take n l) {i = i} (rw (length-take-le n l k) h)
+
+  -- behind the seam of p and q
+  pub drop-past : (p q : List A) (a n : ℕ) → length p ≡ a → drop (a + n) (p ++ q) ≡ drop n q
+  drop-past p q a n e = rw (← e) (drop-append-add p q n)
+
+  pub from-past : (f : List A → List A) (p q : List A) (a n : ℕ) → length p ≡ a → from (a + n) f (p ++ q) ≡ p ++ from n f q
+  from-past f p q a n e = rw (← e, take-append-add, drop-append-add, append-assoc)
+
+  -- so many of one element, cut in two
+  pub split-same : (z : A) (c m : ℕ) → c ≤ m → (take c (replicate m z) ≡ replicate c z) × (drop c (replicate m z) ≡ replicate (m - c) z)
+  split-same z c m h =
+      let e : c + (m - c) ≡ m = omega arith in
+      let s : replicate c z ++ replicate (m - c) z ≡ replicate m z = replicate-append-replicate c (m - c) z ∙ ap (λ n. replicate n z) e in (
+        ap (take c) (sym s) ∙ take-at (replicate c z) _ c (length-replicate c z),
+        ap (drop c) (sym s) ∙ drop-at (replicate c z) _ c (length-replicate c z),
+      )
+
+  -- a list whose first places are z: one more is written; and what stands behind place j
+  pub fill-more : (z : A) (l : List A) (i : ℕ) → i < length l → set (replicate i z ++ drop i l) i z ≡ replicate (i + 1) z ++ drop (i + 1) l
+  fill-more z l i h = rw add-one (go i l h)
+    where
+      go : (n : ℕ) (xs : List A) → n < length xs → set (replicate n z ++ drop n xs) n z ≡ replicate (suc n) z ++ drop (suc n) xs
+      go n [] k = absurd (not-suc-le-zero k)
+      go zero (x ∷ xs) k = refl
+      go (suc n) (x ∷ xs) k = ap (λ (r : List A). z ∷ r) (go n xs (le-of-suc-le-suc k))
+
+  pub drop-filled : (z : A) (n j : ℕ) (l : List A) → drop j (replicate n z ++ drop n l) ≡ replicate (n - j) z ++ drop (j + (n - j)) l
+  drop-filled z n j l =
+      by (leb j n)
+      (λ t.
+      let h = leb-true j n t in
+      let e : j + (n - j) ≡ n = omega arith in
+      rw (e, drop-append-le j (replicate n z) (drop n l) (rw length-replicate h), split-same z j n h .1))
+      (λ t.
+      let h = leb-false j n t in
+      let o : n - j ≡ 0 = omega arith in
+      let e : j ≡ n + (j - n) = omega arith in
+      let s : j + 0 ≡ n + (j - n) = omega arith in
+      rw (o, s) (ap (λ m. drop m (replicate n z ++ drop n l)) e ∙ drop-past (replicate n z) (drop n l) n (j - n) (length-replicate n z) ∙ drop-drop (j - n) n l))
+
+  module _ (g : A → A) where
+    pub front-length : (c : ℕ) (xs : List A) → length (onFront g c xs) ≡ length xs
+    front-length zero xs = refl
+    front-length (suc c) [] = refl
+    front-length (suc c) (x ∷ xs) = ap suc (front-length c xs)
+
+    front-nil : (c : ℕ) → onFront g c [] ≡ []
+    front-nil zero = refl
+    front-nil (suc c) = refl
+
+    pub front-take : (n c : ℕ) (xs : List A) → take n (onFront g c xs) ≡ onFront g c (take n xs)
+    front-take zero c xs = sym (front-nil c)
+    front-take (suc n) c [] = rw (front-nil c)
+    front-take (suc n) zero (x ∷ xs) = refl
+    front-take (suc n) (suc c) (x ∷ xs) = ap (λ (r : List A). g x ∷ r) (front-take n c xs)
+
+    pub front-drop : (n c : ℕ) (xs : List A) → c ≤ n → drop n (onFront g c xs) ≡ drop n xs
+    front-drop n zero xs h = refl
+    front-drop n (suc c) [] h = refl
+    front-drop zero (suc c) (x ∷ xs) h = absurd (not-suc-le-zero h)
+    front-drop (suc n) (suc c) (x ∷ xs) h = front-drop n c xs (le-of-suc-le-suc h)
+
+    -- only those that are there count
+    pub front-min : (c : ℕ) (xs : List A) → onFront g (min c (length xs)) xs ≡ onFront g c xs
+    front-min zero xs = rw zero-min
+    front-min (suc c) [] = rw min-zero
+    front-min (suc c) (x ∷ xs) = rw (suc-min-suc, front-min c xs)
+
+    -- a loop over the places from i to `end`: a turn, and its end
+    pub front-turn : (xs : List A) (i end : ℕ) (v d : A) {w : List A} → i < end → i < length xs → v ≡ g (getD xs i d)
+        → from i (onFront g (end - i)) xs ≡ w → from (i + 1) (onFront g (end - (i + 1))) (set xs i v) ≡ w
+    front-turn xs i end v d k h e f =
+        let m : end - i ≡ suc (end - suc i) = omega arith in
+        rw (add-one, take-suc-set xs i v h, drop-set-lt (suc i) xs i v (omega arith), append-snoc, e) (rw (m, drop-cons xs i d h) at f)
+
+    pub front-end : (xs : List A) (i end : ℕ) {w : List A} → end ≤ i → from i (onFront g (end - i)) xs ≡ w → xs ≡ w
+    front-end xs i end h f =
+        let m : end - i ≡ 0 = omega arith in
+        rw (m, take-append-drop) at f
+
+-- f of what g makes is h of what f makes
+pub map-front : {A B : Type 0} (f : A → B) (g : A → A) (h : B → B) → ((x : A) → f (g x) ≡ h (f x)) → (c : ℕ) (xs : List A) → map f (onFront g c xs) ≡ onFront h c (map f xs)
+map-front f g h e zero xs = refl
+map-front f g h e (suc c) [] = refl
+map-front f g h e (suc c) (x ∷ xs) = rw (e x, map-front f g h e c xs)

@@ -1,0 +1,29 @@
+-- Each answer is by the tests that led to it.
+use native.Mathlib.Omega.{arith}
+use borrow.Author.Needs.{needs}
+use borrow.Author.Tests.{lt-ltb, le-ltb, le-leb, lt-leb}
+use Rattle.walk.specs.Counts.{metAt}
+use Rattle.walk.proofs.meet.Statement.{statement}
+use Rattle.walk.proofs.meet.Tie as tie
+
+add-next : tie.Need-add-next
+add-next c = search needs
+
+returns : tie.Need-returns
+unfolding metAt
+returns c =
+    let a = c .before .before .before .before .args in
+    simp (lt-ltb _ _ (c .before .before .before .if1 .taken), le-leb (a .old .score) (a .new .score) (omega arith))
+
+returns-2 : tie.Need-returns-2
+unfolding metAt
+returns-2 c =
+    let a = c .before .before .before .before .args in
+    simp (lt-ltb _ _ (c .before .before .before .if1 .taken), lt-leb (a .old .score) (a .new .score) (omega arith))
+
+returns-3 : tie.Need-returns-3
+unfolding metAt
+returns-3 c = simp (le-ltb _ _ (c .if1 .left))
+
+pub meet-spec : {M : Type 1} → statement M
+meet-spec = tie.close (tie.spec add-next returns returns-2 returns-3)

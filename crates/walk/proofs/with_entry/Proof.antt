@@ -1,0 +1,15 @@
+-- The walk where one new entry waits.
+use Rattle.walk.specs.Walk.{withEntry}
+use borrow.Author.Needs.{needs}
+use Rattle.walk.proofs.with_entry.Statement.{statement}
+use Rattle.walk.proofs.with_entry.Tie as tie
+
+walked-requires : tie.Need-walked-requires
+walked-requires c κs = search needs
+
+returns : tie.Need-returns
+unfolding withEntry
+returns c = c .walked .ensures
+
+pub with-entry-spec : {M : Type 1} → statement M
+with-entry-spec = tie.close (tie.spec walked-requires returns)

@@ -1,0 +1,42 @@
+-- The shared list after a step and after a request: what the future views still show of its entries. A desk that the walk cannot hold stays as it stands.
+use mathlib.Core.List.{List, [], _∷_}
+use mathlib.Core.Bool.{Bool, cond, _&&_}
+use Prim.Native.Nat.{ℕ, zero, suc, _+_, _≤_}
+use lib.Dec.{leb}
+use Rattle.lists.specs.Views.{sift}
+use Rattle.rules.specs.Desk.{loaded, listed, needs}
+use Rattle.rules.specs.Cells.{cells, cellViews}
+use Rattle.rules.specs.SharedList.{placed}
+use Rattle.rules.specs.Calls.{withList}
+use Rattle.rules.specs.declared.Board.{Board}
+use Rattle.rules.specs.declared.Entry.{Entry}
+use Rattle.rules.specs.declared.Desk.{Desk}
+
+unfoldable pub sumCells : List Board → ℕ
+sumCells [] = 0
+sumCells (b ∷ bs) = cells b + sumCells bs
+
+-- what the walk can hold: 32 boards, 1,024 cells and needs, 1,024 places
+unfoldable pub walkable : Desk → Bool
+walkable d = leb (d .count) 32 && leb (sumCells (loaded d)) 1024 && leb (needs (loaded d)) 1024 && leb (d .len) 1024
+
+-- the same as facts
+pub record Walkable (d : Desk) : Type 0 where
+  pub few : d .count ≤ 32
+  pub cells : sumCells (loaded d) ≤ 1024
+  pub needs : needs (loaded d) ≤ 1024
+  pub short : d .len ≤ 1024
+
+unfoldable pub thinnedTo : Desk → ℕ → Desk
+thinnedTo d n = cond (walkable d) (withList d n (sift (cellViews (loaded d) n) (listed d))) d
+
+unfoldable pub withEntry : Desk → Entry → Desk
+withEntry d e = cond (walkable d) (withList d (d .time .clock) (sift (cellViews (loaded d) (d .time .clock)) (placed e (listed d)))) d
+
+-- Both in one: the entries, with so many of a new one at its place, one or none.
+abbrev pub arrived : Entry → ℕ → List Entry → List Entry
+arrived new zero es = es
+arrived new (suc n) es = placed new es
+
+abbrev pub walkedTo : Desk → ℕ → Entry → ℕ → Desk
+walkedTo d clock new waiting = withList d clock (sift (cellViews (loaded d) clock) (arrived new waiting (listed d)))
