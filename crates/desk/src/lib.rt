@@ -9,7 +9,7 @@ ghost use Rattle.rules.specs.Calls.Reply.{refused as refusedWith};
 ghost use Rattle.rules.specs.Refusals.{judged, kindRules};
 ghost use Rattle.rules.specs.Replies.{measured, found, answered};
 ghost use Rattle.reply.specs.Written.{blocksInto};
-ghost use Rattle.desk.specs.Outcomes.{called, stepOutcome, movedBy, taken, takenFrom, takenBy};
+ghost use Rattle.desk.specs.Outcomes.{called, stepOutcome, movedBy, taken, fromAsked, fromStepped, takenFrom, takenBy};
 use rules::Answered;
 use rules::Asked;
 use rules::Board;
@@ -252,38 +252,40 @@ pub fn step(desk: Desk, target: u32, reply: &mut [u32]) -> Moved
     move_on(desk, reached(desk, target), reply)
 }
 
+fn from_asked(answer: Asked) -> Answered
+    ensures { λ r. ⌜ r ≡ fromAsked answer ⌝ }
+{
+    match answer {
+        Asked::Accepted => Answered::Accepted,
+        Asked::Refused(refusal) => Answered::Refused(refusal),
+    }
+}
+
+fn from_stepped(answer: Stepped) -> Answered
+    ensures { λ r. ⌜ r ≡ fromStepped answer ⌝ }
+{
+    match answer {
+        Stepped::Reached { clock, due, words } => Answered::Reached { clock, due, words },
+        Stepped::Refused(refusal) => Answered::Refused(refusal),
+    }
+}
+
 fn asked(call: Called) -> Taken
     ensures { λ r. ⌜ r ≡ takenFrom call ⌝ }
 {
     let desk = call.desk;
-    let answer = call.answer;
-    match answer {
-        Asked::Accepted => Taken {
-            desk,
-            answer: Answered::Accepted,
-        },
-        Asked::Refused(refusal) => Taken {
-            desk,
-            answer: Answered::Refused(refusal),
-        },
-    }
+    let answered = call.answer;
+    let answer = from_asked(answered);
+    Taken { desk, answer }
 }
 
 fn stepped(call: Moved) -> Taken
     ensures { λ r. ⌜ r ≡ takenBy call ⌝ }
 {
     let desk = call.desk;
-    let answer = call.answer;
-    match answer {
-        Stepped::Reached { clock, due, words } => Taken {
-            desk,
-            answer: Answered::Reached { clock, due, words },
-        },
-        Stepped::Refused(refusal) => Taken {
-            desk,
-            answer: Answered::Refused(refusal),
-        },
-    }
+    let answered = call.answer;
+    let answer = from_stepped(answered);
+    Taken { desk, answer }
 }
 
 fn unknown(desk: Desk) -> Taken
