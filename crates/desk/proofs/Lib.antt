@@ -1,3 +1,4 @@
 pub mod Sums
 pub mod Keeping
 pub mod Taking
+pub mod Tight

@@ -3,4 +3,4 @@ pub mod Encoding
 pub mod Front
 pub mod Loops
 pub mod Numbers
-pub mod Promise
+pub mod Tight

@@ -6,4 +6,5 @@ pub mod Stepping
 pub mod Running
 pub mod Refusing
 pub mod Continuing
+pub mod Programs
 pub mod Proved

@@ -1,3 +1,4 @@
 pub mod Runs
 pub mod Ledger
+pub mod Program
 pub mod Theorems

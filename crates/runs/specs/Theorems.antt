@@ -17,6 +17,7 @@ use Rattle.rules.specs.declared.Desk.{Desk}
 use Rattle.runs.specs.Runs.{Call, Said, said, replies, after}
 use Rattle.runs.specs.Runs.Call.{load, opening, request, step, measure, place, read}
 use Rattle.runs.specs.Runs.Said.{asked, stepped, measured, found, heard}
+use Rattle.runs.specs.Program.{Program}
 use Rattle.runs.specs.Ledger.{Ledger, empty, onList, entries, stop, ledgerSaid, ledgerNext, ledgerReplies, ledgerAfter}
 
 -- the ledger of a run: every accepted request, and nothing thrown away
@@ -107,7 +108,12 @@ pub record Unseen (d : Desk) (c : Call) : Type 0 where
   pub replies : (later : List Call) → replies d (c ∷ later) ≡ said d c ∷ replies d later
   pub desk : (later : List Call) → after d (c ∷ later) ≡ after d later
 
+-- These are theorems about the program: whatever its functions give back along a run, by their promises, is what the definitions give.
+abbrev pub OfTheProgram : Type 0
+OfTheProgram = (d e : Desk) (run : List Call) (given : List Said) → Program d run given e → (given ≡ replies d run) × (e ≡ after d run)
+
 pub record Theorems : Type 0 where
+  pub program : OfTheProgram
   pub A : (run : List Call) → SameAnswers run
   pub B : (run : List Call) → Exactly run
   pub C : (run : List Call) → Room run
