@@ -6,3 +6,4 @@ pub mod Best
 pub mod Nested
 pub mod Along
 pub mod Turns
+pub mod Fronts

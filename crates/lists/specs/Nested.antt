@@ -1,9 +1,9 @@
 -- Nested views, numbered from 0, each inside the one before it: x is inside those below `reach x`. Their caps are a list of numbers.
-use mathlib.Core.List.{List, [], _∷_}
+use mathlib.Core.List.{List, [], _∷_, _++_}
 use mathlib.Core.Bool.{Bool, false}
 use Prim.Native.Nat.{ℕ, zero, suc, _≤_}
 use lib.Dec.{ltb}
-use lib.ListN.{getD}
+use lib.ListN.{getD, take, drop}
 use Rattle.lists.specs.Views.{View}
 
 module _ {A : Type 0} (reach : A → ℕ) where
@@ -25,6 +25,10 @@ abbrev pub onFront : {A : Type 0} → (A → A) → ℕ → List A → List A
 onFront g zero xs = xs
 onFront g (suc n) [] = []
 onFront g (suc n) (x ∷ xs) = g x ∷ onFront g n xs
+
+-- f of what stands from a place on
+abbrev pub from : {A : Type 0} → ℕ → (List A → List A) → List A → List A
+from at f l = take at l ++ f (drop at l)
 
 -- none is below the one before it, nor the first below n
 abbrev pub Rise : ℕ → List ℕ → Type 0

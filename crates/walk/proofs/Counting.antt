@@ -14,8 +14,10 @@ use Rattle.rules.specs.Cells.{cells, held}
 use Rattle.rules.specs.declared.Board.{Board}
 use Rattle.rules.specs.declared.Entry.{Entry}
 use Rattle.walk.specs.Walk.{sumCells}
-use Rattle.walk.specs.Counts.{from, hasRoom, counted, shown, passed}
-use Rattle.walk.proofs.Lists.{rest-cons, rest-nil, drop-past, from-past, front-length, front-take, front-drop}
+use Rattle.lists.specs.Nested.{from}
+use Rattle.walk.specs.Counts.{hasRoom, counted, shown, passed}
+use Rattle.lists.proofs.Fronts.{drop-past, from-past, front-length, front-take, front-drop}
+use Rattle.lists.proofs.Turns.{turn as next, turned}
 
 pub held-few : (n : ℕ) (b : Board) (e : Entry) → held n b e ≤ cells b
 unfolding held
@@ -57,15 +59,15 @@ module _ (k c : ℕ) where
 module _ (boards : List Board) (count i : ℕ) (few : count ≤ length boards) where
   pub cells-rest : i < count → sumCells (drop i (take count boards)) ≡ cells (getD boards i noBoard) + sumCells (drop (i + 1) (take count boards))
   unfolding sumCells
-  cells-rest h = rw (rest-cons boards count i noBoard h few)
+  cells-rest h = rw (next boards count noBoard few i h)
 
   pub needs-rest : i < count → needs (drop i (take count boards)) ≡ need (getD boards i noBoard) + needs (drop (i + 1) (take count boards))
   unfolding needs
-  needs-rest h = rw (rest-cons boards count i noBoard h few)
+  needs-rest h = rw (next boards count noBoard few i h)
 
   pub none-rest : count ≤ i → (sumCells (drop i (take count boards)) ≡ 0) × (needs (drop i (take count boards)) ≡ 0)
   unfolding sumCells needs
-  none-rest h = rw (rest-nil boards count i h few) (refl, refl)
+  none-rest h = rw (turned boards count noBoard few i h) (refl, refl)
 
 -- The loop that shows an entry, after i boards, whose cells end at `at`: what they say, and what the definitions make of those left, is the whole.
 pub record Showing (n : ℕ) (boards : List Board) (count : ℕ) (e : Entry) (first counts : List ℕ) (any : Bool) (at i : ℕ) : Type 0 where
@@ -97,10 +99,10 @@ module _ {n : ℕ} {boards : List Board} {count : ℕ} {e : Entry} {first counts
       done = omega arith;
       fits = omega (arith, room-behind h, c);
       all-cells = l;
-      some = rw (c, behind, r, or-assoc) (rw (rest-cons boards count i noBoard h few) at (s .some));
-      whole = rw (c, a) (from-past (passed n (drop (i + 1) (take count boards)) e) (take at counts) _ at (cells board) seam ∙ (rw (rest-cons boards count i noBoard h few) at (s .whole)));
+      some = rw (c, behind, r, or-assoc) (rw (next boards count noBoard few i h) at (s .some));
+      whole = rw (c, a) (from-past (passed n (drop (i + 1) (take count boards)) e) (take at counts) _ at (cells board) seam ∙ (rw (next boards count noBoard few i h) at (s .whole)));
     }
 
   pub shown-end : count ≤ i → (any ≡ shown n (take count boards) e first) × (counts ≡ passed n (take count boards) e first)
   unfolding shown passed
-  shown-end h = (sym (rw (rest-nil boards count i h few, or-false) at (s .some)), rw (rest-nil boards count i h few, take-append-drop) at (s .whole))
+  shown-end h = (sym (rw (turned boards count noBoard few i h, or-false) at (s .some)), rw (turned boards count noBoard few i h, take-append-drop) at (s .whole))

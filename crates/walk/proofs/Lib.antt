@@ -1,4 +1,3 @@
-pub mod Lists
 pub mod Walkable
 pub mod Counting
 pub mod Sifting

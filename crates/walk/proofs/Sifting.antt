@@ -22,7 +22,7 @@ use Rattle.rules.specs.declared.Board.{Board}
 use Rattle.rules.specs.declared.Entry.{Entry}
 use Rattle.walk.specs.Walk.{sumCells}
 use Rattle.walk.specs.Counts.{hasRoom, oneMore, counted, shown, passed}
-use Rattle.walk.proofs.Lists.{split-same, front-min, map-front}
+use Rattle.lists.proofs.Fronts.{split-same, front-min, map-front}
 use Rattle.walk.proofs.Counting.{held-few, room-take, counted-length, counted-take, counted-drop}
 
 -- what each cell has left of k

@@ -19,7 +19,8 @@ use Rattle.rules.specs.declared.Entry.{Entry}
 use Rattle.walk.specs.Walk.{sumCells, arrived}
 use Rattle.walk.specs.Counts.{shown, passed, metAt}
 use Rattle.walk.specs.declared.Met.{Met}
-use Rattle.walk.proofs.Lists.{rest-cons, rest-nil, drop-filled}
+use Rattle.lists.proofs.Fronts.{drop-filled}
+use Rattle.lists.proofs.Turns.{turn, turned}
 use Rattle.walk.proofs.Sifting.{viewsLeft, Rising, rising-passed, sift-one, begins, sift-few}
 
 -- What is met is the head of what is left of the list and the new entry, and less is left behind it.
@@ -32,7 +33,7 @@ pub record Next (es : List Entry) (new : Entry) (waiting at len : ℕ) (m : Met)
 -- At the list's end the new entry is met with itself.
 module _ (l : List Entry) (len at : ℕ) (new old : Entry) (k : len ≤ length l) (in-list : at < len → old ≡ getD l at noEntry) (at-end : len ≤ at → old ≡ new) where
   here : at < len → drop at (take len l) ≡ old ∷ drop (at + 1) (take len l)
-  here h = rw (in-list h) (rest-cons l len at noEntry h k)
+  here h = rw (in-list h) (turn l len noEntry k at h)
 
   pub next : (waiting : ℕ) → waiting ≤ 1 → at ≤ len → at < len + waiting → Next (take len l) new waiting at len (metAt new waiting old at)
   unfolding metAt
@@ -47,7 +48,7 @@ module _ (l : List Entry) (len at : ℕ) (new old : Entry) (k : len ≤ length l
       (λ t.
       let g = ltb-false at len t in
       let s : leb (old .score) (new .score) ≡ true = rw (at-end g) (le-leb (new .score) (new .score) (omega arith)) in
-      rw s (record { head = rw (rest-nil l len at g k); inside = a; few = omega arith; fewer = omega arith }))
+      rw s (record { head = rw (turned l len noEntry k at g); inside = a; few = omega arith; fewer = omega arith }))
   next (suc (suc n)) w a h = absurd (omega arith)
 
 -- The walk on its way: what is kept so far, and the sift of what is left by what the views have left, is the sift of the whole; behind what is kept
@@ -123,7 +124,7 @@ module _ {clock : ℕ} {bs : List Board} {len : ℕ} {es : List Entry} {new : En
     unfolding settled
     ends stood e k b h =
         let z : waits ≡ 0 = omega (arith, w .inside) in
-        let o : drop at es ≡ [] = rw e (rest-nil stood len at (omega arith) k) in
+        let o : drop at es ≡ [] = rw e (turned stood len noEntry k at (omega arith)) in
         let t : take kept entries ≡ sift (cellViews bs clock) (arrived new waiting es) = rw (z, o, append-nil) at (w .whole) in
         let l : length (sift (cellViews bs clock) (arrived new waiting es)) ≡ kept = ap length (sym t) ∙ length-take-le kept entries (omega (arith, w .fits, w .all-places)) in
         (sym l, sym (take-append-drop kept entries) ∙ rw (t, w .behind, b, l, drop-filled))

@@ -4,15 +4,11 @@ use mathlib.Core.Bool.{Bool, false, cond, _&&_, _||_}
 use Prim.Native.Nat.{ℕ, zero, suc, _+_, min}
 use lib.Dec.{ltb, leb}
 use lib.ListN.{take, drop, getD}
-use Rattle.lists.specs.Nested.{onFront}
+use Rattle.lists.specs.Nested.{onFront, from}
 use Rattle.rules.specs.Cells.{cells, held}
 use Rattle.rules.specs.declared.Board.{Board}
 use Rattle.rules.specs.declared.Entry.{Entry}
 use Rattle.walk.specs.declared.Met.{Met}
-
--- f of what stands from a place on
-abbrev pub from : {A : Type 0} → ℕ → (List A → List A) → List A → List A
-from at f l = take at l ++ f (drop at l)
 
 -- the last of the first c cells shows fewer than k
 unfoldable pub hasRoom : ℕ → ℕ → List ℕ → Bool

@@ -8,10 +8,10 @@ ghost use mathlib.Core.Bool.{cond};
 ghost use mathlib.Core.List.{_++_};
 ghost use Prim.Native.Nat.{_+_, _≤_};
 ghost use lib.ListN.{length, take, drop, replicate};
-ghost use Rattle.lists.specs.Nested.{onFront};
+ghost use Rattle.lists.specs.Nested.{onFront, from};
 ghost use Rattle.rules.specs.Desk.{noEntry};
 ghost use Rattle.walk.specs.Walk.{sumCells, walkable, Walkable, walkedTo, thinnedTo, withEntry};
-ghost use Rattle.walk.specs.Counts.{from, hasRoom, oneMore, counted, shown, passed, metAt};
+ghost use Rattle.walk.specs.Counts.{hasRoom, oneMore, counted, shown, passed, metAt};
 
 // What the walk meets, the place where it goes on, and how many new entries wait then: one or none.
 struct Met {

@@ -7,7 +7,7 @@ use borrow.Author.Needs.{needs}
 use lib.ListN.{length, drop, set, replicate}
 use Rattle.rules.specs.Desk.{noEntry}
 use Rattle.rules.specs.declared.Entry.{Entry}
-use Rattle.walk.proofs.Lists.{fill-more}
+use Rattle.lists.proofs.Fronts.{fill-more}
 use Rattle.walk.proofs.cleared.Statement.{statement}
 use Rattle.walk.proofs.cleared.Tie as tie
 

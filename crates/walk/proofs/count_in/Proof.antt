@@ -3,9 +3,9 @@ use mathlib.Core.Path.{_≡_, refl}
 use Prim.Native.Nat.{_+_, _-_, _≤_}
 use native.Mathlib.Omega.{arith}
 use lib.ListN.{length, length-set}
-use Rattle.lists.specs.Nested.{onFront}
-use Rattle.walk.specs.Counts.{from, oneMore}
-use Rattle.walk.proofs.Lists.{front-turn, front-end}
+use Rattle.lists.specs.Nested.{onFront, from}
+use Rattle.walk.specs.Counts.{oneMore}
+use Rattle.lists.proofs.Fronts.{front-turn, front-end}
 use Rattle.walk.proofs.count_in.Statement.{statement}
 use Rattle.walk.proofs.count_in.Tie as tie
 

@@ -1,4 +1,4 @@
--- Laws of lists of any elements: the rest of a front part, and `onFront`, which changes a front part and nothing behind it.
+-- Front parts: `onFront` changes a front part and nothing behind it; `from` changes what stands from a place on.
 use mathlib.Core.Path.{_≡_, refl, sym, ap, _∙_}
 use mathlib.Core.List.{List, [], _∷_, _++_, map, append-assoc}
 use Prim.Native.Nat.{ℕ, zero, suc, _+_, _-_, _≤_, _<_, min}
@@ -7,22 +7,12 @@ use native.Mathlib.Numerals.{add-one}
 use native.Mathlib.Nat.{le-of-suc-le-suc, not-suc-le-zero, zero-min, min-zero, suc-min-suc}
 use borrow.Author.Tests.{leb-true, leb-false}
 use lib.Dec.{leb}
-use lib.ListN.{length, take, drop, getD, set, replicate, drop-of-length-le, take-append-drop, length-replicate, replicate-append-replicate}
-use lib.Seq.{drop-cons, length-take-le, getD-take, take-suc-set, drop-set-lt, append-snoc, take-append-add, drop-append-add, drop-append-le, take-at, drop-at, drop-drop}
-use Rattle.lists.specs.Nested.{onFront}
+use lib.ListN.{length, take, drop, getD, set, replicate, take-append-drop, length-replicate, replicate-append-replicate}
+use lib.Seq.{drop-cons, take-suc-set, drop-set-lt, append-snoc, take-append-add, drop-append-add, drop-append-le, take-at, drop-at, drop-drop}
+use Rattle.lists.specs.Nested.{onFront, from}
 use Rattle.lists.proofs.Bools.{by}
-use Rattle.walk.specs.Counts.{from}
 
 module _ {A : Type 0} where
-  -- the first n of a list, from place i on
-  pub rest-cons : (l : List A) (n i : ℕ) (d : A) → i < n → n ≤ length l → drop i (take n l) ≡ getD l i d ∷ drop (i + 1) (take n l)
-  rest-cons l n i d h k =
-      let m : i < length (take n l) = rw (length-take-le n l k) h in
-      rw (add-one, drop-cons (take n l) i d m, getD-take n l i d h)
-
-  pub rest-nil : (l : List A) (n i : ℕ) → n ≤ i → n ≤ length l → drop i (take n l) ≡ []
-  rest-nil l n i h k = drop-of-length-le (take n l) {i = i} (rw (length-take-le n l k) h)
-
   -- behind the seam of p and q
   pub drop-past : (p q : List A) (a n : ℕ) → length p ≡ a → drop (a + n) (p ++ q) ≡ drop n q
   drop-past p q a n e = rw (← e) (drop-append-add p q n)
