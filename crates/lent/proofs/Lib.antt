@@ -1,0 +1,2 @@
+pub mod Untouched
+pub mod Tight
