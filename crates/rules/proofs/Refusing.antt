@@ -6,12 +6,14 @@ use mathlib.Core.Logic.{_⊎_, inl, inr, _↔_}
 use Prim.Native.Nat.{ℕ, _≤_, _<_}
 use native.Mathlib.Omega.{arith}
 use borrow.Author.Tests.{ltb-false, le-ltb, leb-true, le-leb, not-false}
-use lib.Dec.{ltb, leb}
+use lib.Dec.{eqb, ltb, leb}
+use lib.ListN.{length}
 use Rattle.lists.specs.Views.{all}
 use Rattle.lists.proofs.Bools.{by, clash, neither}
 use Rattle.rules.specs.Desk.{limit, needs, boardFits, loaded, listed, isOpen}
-use Rattle.rules.specs.Refusals.{Rule, judged, Refuses, entryFits, falls, disorder, InOrder}
-use Rattle.rules.specs.Calls.{Reply}
+use Rattle.rules.specs.Moments.{reached}
+use Rattle.rules.specs.Refusals.{Rule, judged, Refuses, entryFits, falls, disorder, InOrder, stepRules}
+use Rattle.rules.specs.Calls.{Reply, refusal, Outcome, StepOutcome, stays, movedTo, stepCall}
 use Rattle.rules.specs.Calls.Reply.{refused, accepted}
 use Rattle.rules.specs.declared.Desk.{Desk}
 
@@ -63,6 +65,40 @@ judged-cases (r ∷ rs) = go (r .given) refl (judged-cases rs)
     go true e h = inl (record { no = r .no; same = λ A refuse accept. rw e })
     go false e (inl h) = inl (record { no = h .no; same = λ A refuse accept. rw e (h .same A refuse accept) })
     go false e (inr h) = inr (record { none = (e, h .none); same = λ A refuse accept. rw e (h .same A refuse accept) })
+
+-- A refused call gives back the desk and the slice as they stood, by its definition.
+
+pub stood : (d d′ : Desk) (rs : List Rule) (o : Outcome Unit)
+    → o ≡ judged rs (λ n. record { reply = refused n; desk = d }) (record { reply = accepted tt; desk = d′ }) → 0 < refusal (o .reply) → o .desk ≡ d
+stood d d′ rs o e h = go (judged-cases rs)
+  where
+    go : Denied rs ⊎ Granted rs → o .desk ≡ d
+    go (inl k) = ap (λ (u : Outcome Unit). u .desk) (e ∙ k .same (Outcome Unit) _ _)
+    go (inr k) = absurd (omega (arith, h, ap (λ (u : Outcome Unit). refusal (u .reply)) (e ∙ k .same (Outcome Unit) _ _)))
+
+module _ (d : Desk) (target : ℕ) (slice : List ℕ) where
+  abbrev accepts : StepOutcome
+  accepts = cond (eqb target (d .time .clock)) (stays d slice) (movedTo d (reached (loaded d) (d .time .clock) target) slice)
+
+  accepts-number : refusal (accepts .reply) ≡ 0
+  accepts-number = by (eqb target (d .time .clock)) (λ e. rw e) (λ e. rw e)
+
+  pub step-stood : 0 < refusal (stepCall d target slice .reply)
+      → stepCall d target slice ≡ record { reply = refused (refusal (stepCall d target slice .reply)); desk = d; slice = slice }
+  unfolding stepCall
+  step-stood h = go (judged-cases rules)
+    where
+      rules : List Rule
+      rules = stepRules d target (length slice)
+
+      refuse : ℕ → StepOutcome
+      refuse n = record { reply = refused n; desk = d; slice = slice }
+
+      go : Denied rules ⊎ Granted rules → judged rules refuse accepts ≡ refuse (refusal (judged rules refuse accepts .reply))
+      go (inl k) = let e = k .same StepOutcome refuse accepts in rw e
+      go (inr k) =
+          let e = k .same StepOutcome refuse accepts in
+          absurd (omega (arith, h, ap (λ (u : StepOutcome). refusal (u .reply)) e, accepts-number))
 
 module _ (d : Desk) where
   pub in-order : disorder d ≡ false → InOrder d

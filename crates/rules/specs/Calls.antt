@@ -20,6 +20,11 @@ pub data Reply (A : Type 0) : Type 0 where
   refused : ℕ → Reply A
   accepted : A → Reply A
 
+-- a refusal's number; 0 where the call is accepted
+abbrev pub refusal : {A : Type 0} → Reply A → ℕ
+refusal (refused n) = n
+refusal (accepted a) = 0
+
 -- The reader, and calls that only read: nothing is altered.
 
 unfoldable pub readerCall : List ℕ → Reply Message

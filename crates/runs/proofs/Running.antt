@@ -14,7 +14,7 @@ use Rattle.rules.specs.Desk.{loaded, listed, fresh, noEntry}
 use Rattle.rules.specs.Messages.{message}
 use Rattle.rules.specs.Moments.{Answer, answer}
 use Rattle.rules.specs.Refusals.{Rule, judged, readerRules}
-use Rattle.rules.specs.Calls.{Reply, readerCall, lengthCall, placeCall}
+use Rattle.rules.specs.Calls.{Reply, refusal, readerCall, lengthCall, placeCall}
 use Rattle.rules.specs.Calls.Reply.{refused, accepted}
 use Rattle.rules.specs.declared.Desk.{Desk}
 use Rattle.rules.proofs.Ranks.{answer-is, answer-only}
@@ -23,7 +23,7 @@ use Rattle.runs.specs.Runs.{Call, Said, said, next, replies, after}
 use Rattle.runs.specs.Runs.Call.{load, opening, request, step, measure, place, read}
 use Rattle.runs.specs.Runs.Said.{asked, stepped, measured, found, heard}
 use Rattle.runs.specs.Ledger.{Ledger, empty, onList, entries, loadRules, openingRules, requestRules, stepRules, placeRules, ledgerSaid, ledgerNext, ledgerReplies, ledgerAfter}
-use Rattle.runs.specs.Theorems.{kept, SameAnswers, no, number, Room}
+use Rattle.runs.specs.Theorems.{kept, SameAnswers, number, Room}
 use Rattle.runs.proofs.Agreeing.{fresh-same, empty-sound, falling-list, list-room, same-order}
 use Rattle.runs.proofs.Calling.{On, ordered, load-alike, open-alike}
 use Rattle.runs.proofs.Requesting.{request-alike}
@@ -99,8 +99,8 @@ module _ {A : Type 0} (of : A → ℕ) (refuse : ℕ → A) (accept : A) (same :
       (λ t. no-other rs (k .1) (rw t at e))
 
 -- of a call whose accepted reply is a value
-reply-never99 : {A : Type 0} (rs : List Rule) (a : A) → all (λ r. not (eqb (r .no) 99)) rs ≡ true → no (judged rs refused (accepted a)) ≡ 99 → ⊥
-reply-never99 rs a = no-other no refused (accepted a) (λ n. refl) refl rs
+reply-never99 : {A : Type 0} (rs : List Rule) (a : A) → all (λ r. not (eqb (r .no) 99)) rs ≡ true → refusal (judged rs refused (accepted a)) ≡ 99 → ⊥
+reply-never99 rs a = no-other refusal refused (accepted a) (λ n. refl) refl rs
 
 call-never99 : (l : Ledger) (c : Call) → number (ledgerSaid l c) ≡ 99 → ⊥
 unfolding readerCall

@@ -10,7 +10,7 @@ use Rattle.rules.specs.Desk.{needs, loaded, listed, fresh}
 use Rattle.rules.specs.Moments.{Moment, Accepted, better, Answer, answer}
 use Rattle.rules.specs.SharedList.{OnList}
 use Rattle.rules.specs.Refusals.{InOrder}
-use Rattle.rules.specs.Calls.{Reply, Steps}
+use Rattle.rules.specs.Calls.{Steps, refusal}
 use Rattle.rules.specs.Calls.Reply.{refused, accepted}
 use Rattle.rules.specs.declared.Board.{Board}
 use Rattle.rules.specs.declared.Desk.{Desk}
@@ -73,16 +73,12 @@ Exactly run = (x : Accepted) → x ∈ kept run .requests → (x ∈ onList (kep
 -- C. "So the list never runs out of room": never more than the sum of needs; the entries in the list's order; and no call answers 99.
 
 -- a refusal's number; 0 where the call is accepted
-abbrev pub no : {A : Type 0} → Reply A → ℕ
-no (refused n) = n
-no (accepted a) = 0
-
 abbrev pub number : Said → ℕ
-number (asked r) = no r
-number (stepped r words) = no r
-number (measured r) = no r
-number (found r) = no r
-number (heard r) = no r
+number (asked r) = refusal r
+number (stepped r words) = refusal r
+number (measured r) = refusal r
+number (found r) = refusal r
+number (heard r) = refusal r
 
 pub record Room (run : List Call) : Type 0 where
   pub room : length (listed (after fresh run)) ≤ needs (loaded (after fresh run))
