@@ -40,16 +40,18 @@ Stands n words = (blockEnd words ≤ length words) × Blocks (n - 1) (take (leng
 pub front : (n : ℕ) (words : List ℕ) → 0 < n → Blocks n words → Stands n words
 unfolding Blocks
 front zero words h s = absurd (omega arith)
-front (suc n) words h s =
-    (s .0,
-    rw (sub-one (suc n), take-all (length words - blockEnd words) (drop (blockEnd words) words) (simp length-drop (omega arith))) (s .1))
+front (suc n) words h s = (
+  s .0,
+  rw (sub-one (suc n), take-all (length words - blockEnd words) (drop (blockEnd words) words) (simp length-drop (omega arith))) (s .1),
+)
 
 one : (number : ℕ) (shown : List Entry) (n : ℕ) (words : List ℕ) → Blocks n words → Blocks (suc n) (block number shown ++ words)
 unfolding Blocks
 one number shown n words others =
-    let e : 2 + 3 * length shown ≡ length (block number shown) = omega (arith, words-length shown) in
-    (omega (arith, words-length shown, length-append (block number shown) words),
-    rw (e, drop-append-seam (block number shown) words) others)
+    let e : 2 + 3 * length shown ≡ length (block number shown) = omega (arith, words-length shown) in (
+      omega (arith, words-length shown, length-append (block number shown) words),
+      rw (e, drop-append-seam (block number shown) words) others,
+    )
 
 -- the blocks of the boards due at T, and whatever stands behind them
 stand : (number : ℕ) (bs : List Board) (T : ℕ) (es : List Entry) (after : List ℕ) → Blocks (count (λ b. isMoment b T) bs) (blocks number bs T es ++ after)

@@ -75,13 +75,7 @@ fn keep(input: &mut [u8], end: usize, left: usize)
 }
 
 // Takes every whole message, and writes out what there is to say. A clock message is taken again until its target.
-fn messages(
-    desk: Desk,
-    place: u64,
-    input: &[u8],
-    reply: &mut [u32],
-    output: &mut [u8],
-) -> Progress
+fn messages(desk: Desk, place: u64, input: &[u8], reply: &mut [u32], output: &mut [u8]) -> Progress
     requires { ⌜ Waiting 0 (now output) ⌝ }
     ensures { λ r. ⌜ (r .left < 20) × (r .left ≤ length (now (input .entry))) ⌝ }
 {

@@ -5,7 +5,8 @@ ghost use lib.ListN.{length};
 ghost use Rattle.rules.specs.Desk.{fresh as freshDesk, loaded};
 ghost use Rattle.rules.specs.Moments.{reached as reachedBy};
 ghost use Rattle.rules.specs.Calls.{lengthCall, placeCall, boardCall, openCall, requestCall, stepCall, messageCall};
-ghost use Rattle.rules.specs.Calls.Reply.{refused as refusedWith};
+ghost use Rattle.rules.specs.Calls.Reply.{refused as refusedWith, accepted as acceptedWith};
+ghost use Rattle.rules.specs.Calls.Done.{done};
 ghost use Rattle.rules.specs.Refusals.{judged, kindRules};
 ghost use Rattle.rules.specs.Replies.{measured, found, answered};
 ghost use Rattle.reply.specs.Written.{blocksInto};
@@ -289,7 +290,7 @@ fn stepped(call: Moved) -> Taken
 }
 
 fn unknown(desk: Desk) -> Taken
-    ensures { λ r. ⌜ answered (r .answer) ≡ judged (kindRules desk) refusedWith (refusedWith 4) ⌝ }
+    ensures { λ r. ⌜ answered (r .answer) ≡ judged (kindRules desk) refusedWith (acceptedWith done) ⌝ }
     ensures { λ r. ⌜ r .desk ≡ desk ⌝ }
 {
     if order::in_disorder(desk) {

@@ -131,7 +131,7 @@ stepCall d target slice =
     (λ n. record { reply = refused n; desk = d; slice = slice })
     (cond (eqb target (d .time .clock)) (stays d slice) (movedTo d (reached (loaded d) (d .time .clock) target) slice))
 
--- A message for the desk: the call that its kind names. Where it names none, 4, and 99 before it.
+-- A message for the desk: the call that its kind names; where it names none, 99 or 4.
 
 pub data Done : Type 0 where
   done : Done
@@ -160,4 +160,4 @@ messageCall d m slice =
     (askedBy slice (requestCall d (m .byte) (m .first) (m .second)))
     (askedBy slice (openCall d))
     (steppedBy (stepCall d (m .first) slice)))
-    (record { reply = judged (kindRules d) refused (refused 4); desk = d; slice = slice })
+    (record { reply = judged (kindRules d) refused (accepted done); desk = d; slice = slice })

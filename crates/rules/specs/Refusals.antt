@@ -118,4 +118,4 @@ placeRules d at = 99 when disorder d ∷ 13 when leb (d .len) at ∷ []
 
 -- a message of no known kind
 abbrev pub kindRules : Desk → List Rule
-kindRules d = 99 when disorder d ∷ []
+kindRules d = 99 when disorder d ∷ 4 when true ∷ []
