@@ -10,7 +10,7 @@ ghost use lib.ListN.{length};
 ghost use Rattle.console.specs.Output.{Waiting};
 ghost use Rattle.console.specs.Steps.{shortOf, Blocks, Shown};
 
-// The words of the longest reply: 2 for each of 32 boards, and 3 for each of 1,024 entries.
+// The longest reply: 2 words for each of 32 boards, and 3 for each of 1,024 entries. So no step is refused with 12.
 const REPLY: usize = 3136;
 
 // No line is longer: a word of at most 8 bytes, and at most three numbers with a byte after each.
@@ -30,7 +30,7 @@ fn main() {
     run(&mut input, &mut reply, &mut output);
 }
 
-// To the end of the input: the reads are counted down from a number that no run uses up.
+// To the end of the input. The reads are counted down from a number that no run uses up.
 fn run(input: &mut [u8], reply: &mut [u32], output: &mut [u8])
     requires { ⌜ (20 ≤ length (now input)) × Waiting 0 (now output) ⌝ }
 {
@@ -41,7 +41,7 @@ fn run(input: &mut [u8], reply: &mut [u32], output: &mut [u8])
     while reads > 0 {
         let end = read_on(input, left);
         if end == left {
-            return finish(desk, place, left, output);
+            return finish(desk, place, &input[..left], output);
         }
         let after = messages(desk, place, &input[..end], reply, output);
         desk = after.desk;
@@ -52,7 +52,7 @@ fn run(input: &mut [u8], reply: &mut [u32], output: &mut [u8])
     }
 }
 
-// One read behind the bytes that are left: the end of what is there then.
+// One read behind the bytes that are left, and where the bytes end then: where they ended before if no more came.
 fn read_on(input: &mut [u8], left: usize) -> usize
     requires { ⌜ left < length (now input) ⌝ }
     ensures { λ r. ⌜ (left ≤ r) × (r ≤ length (now (input .exit))) ⌝ }
@@ -74,7 +74,7 @@ fn keep(input: &mut [u8], end: usize, left: usize)
     }
 }
 
-// Takes every whole message, and writes out what there is to say. A clock message is taken again until its target.
+// Takes every whole message, and writes out what there is to say. A clock message is taken again until its target is reached.
 fn messages(desk: Desk, place: u64, input: &[u8], reply: &mut [u32], output: &mut [u8]) -> Progress
     requires { ⌜ Waiting 0 (now output) ⌝ }
     ensures { λ r. ⌜ (r .left < 20) × (r .left ≤ length (now (input .entry))) ⌝ }
@@ -127,23 +127,27 @@ fn short_of(answer: Answered, target: u32) -> bool
     }
 }
 
-// A last piece of 1 to 19 bytes is refused; then comes the length of the list.
-fn finish(desk: Desk, place: u64, left: usize, output: &mut [u8])
-    requires { ⌜ (left < 20) × Waiting 0 (now output) ⌝ }
+// The end of the run: a last piece that is no whole message, and the length of the list.
+fn finish(desk: Desk, place: u64, piece: &[u8], output: &mut [u8])
+    requires { ⌜ (length (now piece) < 20) × Waiting 0 (now output) ⌝ }
 {
-    let at = put_left(place, left, output);
+    let at = put_last(place, piece, output);
     let end = put_held(desk::length(desk), place, output, at);
     write_out(output, end);
 }
 
-fn put_left(place: u64, left: usize, output: &mut [u8]) -> usize
-    requires { ⌜ Waiting 0 (now output) ⌝ }
+// The reader refuses a last piece of 1 to 19 bytes.
+fn put_last(place: u64, piece: &[u8], output: &mut [u8]) -> usize
+    requires { ⌜ (length (now piece) < 20) × Waiting 0 (now output) ⌝ }
     ensures { λ r. ⌜ Waiting r (now (output .exit)) ⌝ }
 {
-    if left == 0 {
+    if piece.len() == 0 {
         return 0;
     }
-    put_refused(place, Refusal::Short, output, 0)
+    match message::read(piece) {
+        Read::Message(_) => 0,
+        Read::Refused(refusal) => put_refused(place, refusal, output, 0),
+    }
 }
 
 // No run from a fresh desk meets a refusal here.
@@ -161,6 +165,16 @@ fn put_held(held: Measured, place: u64, output: &mut [u8], at: usize) -> usize
     }
 }
 
+fn put_refused(place: u64, refusal: Refusal, output: &mut [u8], at: usize) -> usize
+    requires { ⌜ Waiting at (now output) ⌝ }
+    ensures { λ r. ⌜ Waiting r (now (output .exit)) ⌝ }
+{
+    let mut at = room(output, at);
+    at = put(b"refused ", output, at);
+    at = decimal(place, b' ', output, at);
+    decimal(rules::number(refusal) as u64, b'\n', output, at)
+}
+
 fn put_answer(answer: Answered, place: u64, reply: &[u32], output: &mut [u8], at: usize) -> usize
     requires { ⌜ Waiting at (now output) × Shown answer (now reply) ⌝ }
     ensures { λ r. ⌜ Waiting r (now (output .exit)) ⌝ }
@@ -176,8 +190,8 @@ fn put_answer(answer: Answered, place: u64, reply: &[u32], output: &mut [u8], at
     }
 }
 
-// The blocks of the due boards, one after the other.
-fn put_blocks(clock: u32, due: u32, reply: &[u32], output: &mut [u8], at: usize) -> usize
+// The blocks of the due boards, one behind the other.
+fn put_blocks(moment: u32, due: u32, reply: &[u32], output: &mut [u8], at: usize) -> usize
     requires { ⌜ Waiting at (now output) × Blocks due (now reply) ⌝ }
     ensures { λ r. ⌜ Waiting r (now (output .exit)) ⌝ }
 {
@@ -188,7 +202,7 @@ fn put_blocks(clock: u32, due: u32, reply: &[u32], output: &mut [u8], at: usize)
         let board = rest[0];
         let count = rest[1];
         let end = 2 + 3 * count as usize;
-        at = put_head(clock, board, count, output, at);
+        at = put_board(moment, board, count, output, at);
         at = put_entries(&rest[2..end], output, at);
         rest = &rest[end..];
         left -= 1;
@@ -196,13 +210,13 @@ fn put_blocks(clock: u32, due: u32, reply: &[u32], output: &mut [u8], at: usize)
     at
 }
 
-fn put_head(clock: u32, board: u32, count: u32, output: &mut [u8], at: usize) -> usize
+fn put_board(moment: u32, board: u32, count: u32, output: &mut [u8], at: usize) -> usize
     requires { ⌜ Waiting at (now output) ⌝ }
     ensures { λ r. ⌜ Waiting r (now (output .exit)) ⌝ }
 {
     let mut at = room(output, at);
     at = put(b"answer ", output, at);
-    put_three(clock, board, count, output, at)
+    put_three(moment, board, count, output, at)
 }
 
 // A line of id, score and tick for each three words.
@@ -229,36 +243,16 @@ fn put_three(a: u32, b: u32, c: u32, output: &mut [u8], at: usize) -> usize
     decimal(c as u64, b'\n', output, at)
 }
 
-fn put_refused(place: u64, refusal: Refusal, output: &mut [u8], at: usize) -> usize
-    requires { ⌜ Waiting at (now output) ⌝ }
-    ensures { λ r. ⌜ Waiting r (now (output .exit)) ⌝ }
+// A number without leading zeros, and the byte after it.
+fn decimal(n: u64, after: u8, output: &mut [u8], at: usize) -> usize
+    requires { ⌜ at + 21 ≤ length (now output) ⌝ }
+    ensures { λ r. ⌜ r ≤ at + 21 ⌝ }
 {
-    let mut at = room(output, at);
-    at = put(b"refused ", output, at);
-    at = decimal(place, b' ', output, at);
-    decimal(rules::number(refusal) as u64, b'\n', output, at)
-}
-
-// Where the next line goes: what waits is written out first where the line might not fit behind it.
-fn room(output: &[u8], at: usize) -> usize
-    requires { ⌜ Waiting at (now output) ⌝ }
-    ensures { λ r. ⌜ r + 71 ≤ length (now (output .entry)) ⌝ }
-{
-    if output.len() - at < LINE {
-        write_out(output, at);
-        return 0;
-    }
-    at
-}
-
-// What waits is written out.
-fn write_out(output: &[u8], at: usize)
-    requires { ⌜ at ≤ length (now output) ⌝ }
-{
-    if io::write_all(1, &output[..at]) {
-        return;
-    }
-    io::write_all(2, b"console: standard output cannot be written\n");
+    let mut text = [0u8; 20];
+    let size = io::decimal(n, &mut text);
+    let end = put(&text[..size], output, at);
+    output[end] = after;
+    end + 1
 }
 
 fn put(word: &[u8], output: &mut [u8], at: usize) -> usize
@@ -271,33 +265,23 @@ fn put(word: &[u8], output: &mut [u8], at: usize) -> usize
     at + word.len()
 }
 
-// A number without leading zeros, and the byte after it.
-fn decimal(n: u64, after: u8, output: &mut [u8], at: usize) -> usize
-    requires { ⌜ at + 21 ≤ length (now output) ⌝ }
-    ensures { λ r. ⌜ r ≤ at + 21 ⌝ }
+// Where the next line goes. What waits is written out first where the line might not fit behind it.
+fn room(output: &[u8], at: usize) -> usize
+    requires { ⌜ Waiting at (now output) ⌝ }
+    ensures { λ r. ⌜ r + 71 ≤ length (now (output .entry)) ⌝ }
 {
-    let end = at + digits(n);
-    let mut rest = n;
-    let mut i = end;
-    while at < i {
-        i -= 1;
-        output[i] = b'0' + (rest % 10) as u8;
-        rest /= 10;
+    if output.len() - at < LINE {
+        write_out(output, at);
+        return 0;
     }
-    output[end] = after;
-    end + 1
+    at
 }
 
-// How many digits a number has; no number of 64 bits has more than 20.
-fn digits(n: u64) -> usize
-    ensures { λ r. ⌜ r ≤ 20 ⌝ }
+fn write_out(output: &[u8], at: usize)
+    requires { ⌜ at ≤ length (now output) ⌝ }
 {
-    let mut rest = n / 10;
-    for size in 1..20 {
-        if rest == 0 {
-            return size;
-        }
-        rest /= 10;
+    if io::write_all(1, &output[..at]) {
+        return;
     }
-    20
+    io::write_all(2, b"console: standard output cannot be written\n");
 }

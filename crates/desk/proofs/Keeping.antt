@@ -1,9 +1,9 @@
 -- A desk in order is one that the walk can hold, and the walk over cells keeps what the list's rule names.
-use mathlib.Core.Path.{_≡_, refl, sym, ap, subst, _∙_}
+use mathlib.Core.Path.{_≡_, ap}
 use mathlib.Core.List.{List, [], _∷_, List·Memᴰ·cases-cons}
 use mathlib.Core.Bool.{true, and-eq-true-iff}
 use mathlib.Core.Logic.{inl, inr}
-use Prim.Native.Nat.{ℕ, _+_, _≤_}
+use Prim.Native.Nat.{ℕ, _≤_}
 use native.Mathlib.Omega.{arith}
 use native.Mathlib.Nat.{mul-comm, le-mul-of-pos-right}
 use borrow.Author.Tests.{le-leb}

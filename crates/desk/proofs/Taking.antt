@@ -1,8 +1,8 @@
 -- A call's answer, said as a message's, is the paper's reply said so.
-use mathlib.Core.Path.{_≡_, refl, ap}
+use mathlib.Core.Path.{_≡_, refl}
 use mathlib.Core.List.{List}
 use Prim.Native.Nat.{ℕ}
-use Rattle.rules.specs.Calls.{Reply, MessageOutcome, onward, askedBy, steppedBy}
+use Rattle.rules.specs.Calls.{onward, askedBy, steppedBy}
 use Rattle.rules.specs.Calls.Done.{done, moved}
 use Rattle.rules.specs.Replies.{asked, stepped, answered}
 use Rattle.rules.specs.declared.Asked.{Asked}

@@ -1,8 +1,8 @@
 -- Nothing else satisfies a promise: two results of a call that both keep it are equal, whatever the desk, the arguments and the slice.
-use mathlib.Core.Path.{_≡_, sym, ap, _∙_}
+use mathlib.Core.Path.{_≡_, ap}
 use mathlib.Core.List.{List}
 use Prim.Native.Nat.{ℕ}
-use Rattle.rules.specs.Calls.{Reply, Outcome, StepOutcome, MessageOutcome, lengthCall, placeCall, boardCall, openCall, requestCall, stepCall, messageCall}
+use Rattle.rules.specs.Calls.{Outcome, StepOutcome, MessageOutcome, lengthCall, placeCall, boardCall, openCall, requestCall, stepCall, messageCall}
 use Rattle.rules.specs.Replies.{measured, found}
 use Rattle.rules.specs.declared.Board.{Board}
 use Rattle.rules.specs.declared.Message.{Message}

@@ -6,7 +6,6 @@ use Rattle.rules.specs.Calls.{stepCall}
 use Rattle.rules.specs.declared.Desk.{Desk}
 use Rattle.rules.specs.declared.Time.{Time}
 use Rattle.desk.specs.Outcomes.{stepOutcome}
-use Rattle.desk.specs.declared.Moved.{Moved}
 use Rattle.desk.proofs.Tight.{Stepping, step-tight}
 use Rattle.lent.specs.Lent.{withTime}
 

@@ -1,5 +1,5 @@
 -- A refused step leaves all as it stood: the lent clock and phase, the rest of the desk, and every word of the slice.
-use mathlib.Core.Path.{_≡_, sym, ap, _∙_}
+use mathlib.Core.Path.{_≡_, ap, _∙_}
 use mathlib.Core.List.{List}
 use Prim.Native.Nat.{ℕ, _<_}
 use native.Mathlib.Omega.{arith}

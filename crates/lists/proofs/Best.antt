@@ -1,5 +1,5 @@
 -- Best first. In a falling list those before an element are just those above it; so "fewer than cap before it" is "fewer than cap above it".
-use mathlib.Core.Path.{_≡_, refl, sym, ap, ap₂, subst, _∙_}
+use mathlib.Core.Path.{_≡_, refl, sym, ap, ap₂, _∙_}
 use mathlib.Core.List.{List, [], _∷_, List·Memᴰ·head, List·Memᴰ·tail, List·Memᴰ·not-nil, List·Memᴰ·cases-cons, Memᴰ·cast}
 use mathlib.Core.Bool.{Bool, true, false, cond, _&&_, and-eq-true-iff}
 use mathlib.Core.Logic.{_⊎_, inl, inr, _↔_}
@@ -33,11 +33,7 @@ module _ {A : Type 0} (p : A → Bool) where
   pub those-onto : {x : A} (xs ys : List A) → (x ∈ xs → x ∈ ys) → x ∈ those p xs → x ∈ those p ys
   those-onto xs ys f m = let r = mem-those xs m in those-mem ys (f (r .0)) (r .1)
 
-  -- All pass exactly if each does.
-  pub all-of : (xs : List A) → ((x : A) → x ∈ xs → p x ≡ true) → all p xs ≡ true
-  all-of [] h = refl
-  all-of (y ∷ ys) h = rw (h y (List·Memᴰ·head refl), all-of ys (λ x m. h x (List·Memᴰ·tail m)))
-
+  -- Where all pass, each does.
   pub of-all : {x : A} (xs : List A) → all p xs ≡ true → x ∈ xs → p x ≡ true
   of-all [] h m = absurd (List·Memᴰ·not-nil m)
   of-all (y ∷ ys) h (List·Memᴰ·head e) = ap p e ∙ and-eq-true-iff (p y) (all p ys) .0 h .0

@@ -1,6 +1,6 @@
 -- The laws of `sift`: room, fewer views, answers, members.
 use mathlib.Core.Path.{_≡_, refl, sym, ap, ap₂, subst, _∙_}
-use mathlib.Core.List.{List, [], _∷_, _++_, List·Memᴰ·head, List·Memᴰ·tail, List·Memᴰ·not-nil, List·Memᴰ·cases-cons, List·Memᴰ·eq-of-singleton, Memᴰ·cast, List·Memᴰ·append-cases, Memᴰ·append-left, Memᴰ·append-right, Memᴰ·map, Memᴰ·of-map}
+use mathlib.Core.List.{List, [], _∷_, _++_, List·Memᴰ·head, List·Memᴰ·tail, List·Memᴰ·not-nil, List·Memᴰ·eq-of-singleton, Memᴰ·cast, List·Memᴰ·append-cases, Memᴰ·append-left, Memᴰ·append-right, Memᴰ·map, Memᴰ·of-map}
 use mathlib.Core.Bool.{Bool, true, false, cond, _&&_, _||_}
 use mathlib.Core.Logic.{_⊎_, inl, inr, _↔_}
 use Prim.Native.Nat.{ℕ, zero, suc, _+_, _-_, _≤_}
@@ -9,7 +9,7 @@ use borrow.Author.Tests.{ltb-true, lt-ltb}
 use lib.ListN.{length, take}
 use lib.Seq.{take-nil}
 use lib.Dec.{ltb}
-use Rattle.lists.specs.Views.{View, _∈_, put, those, first, shows, spend, pass, sift, caps, Over, Covers}
+use Rattle.lists.specs.Views.{View, _∈_, put, those, first, shows, spend, pass, sift, caps, Covers}
 use Rattle.lists.proofs.Bools.{by, untrue, clash, both-ways}
 use Rattle.lists.proofs.Quota.{needed-some, some-needed, idle}
 
@@ -101,13 +101,6 @@ module _ {A : Type 0} where
 
   pub covers-pass-self : (vs : List (View A)) (x : A) (xs : List A) → Covers xs vs (pass x vs)
   covers-pass-self vs x xs = on-pass _ vs x λ v m _ _ _ _. (v, m, record { room = spend-self (v .inside x) (v .cap); same = λ z n. refl })
-
-  pub covers-cons : {xs : List A} {w v : View A} {ws vs : List (View A)} → Over xs w v → Covers xs ws vs → Covers xs (w ∷ ws) (v ∷ vs)
-  covers-cons {xs} {w} o c u m x k i h =
-      elim (List·Memᴰ·cases-cons m) [
-        | inl e ↦ (w, List·Memᴰ·head refl, subst (Over xs w) (sym e) o)
-        | inr n ↦ let t = c u n x k i h in (t .0, List·Memᴰ·tail (t .1), t .2)
-      ]
 
   pub covers-append : {ws ws′ vs vs′ : List (View A)} (xs : List A) → Covers xs ws vs → Covers xs ws′ vs′ → Covers xs (ws ++ ws′) (vs ++ vs′)
   covers-append {ws} {ws′} {vs} xs c d v m x k i h =

@@ -1,8 +1,8 @@
 -- Nested views by their caps alone. A later view never has less left than an earlier one, so of the views that hold an element the last
 -- decides: one test, and one walk over a front part.
 use mathlib.Core.Path.{_≡_, refl, sym, ap, _∙_}
-use mathlib.Core.List.{List, [], _∷_, _++_, List·Memᴰ·head, List·Memᴰ·tail, List·Memᴰ·not-nil, Memᴰ·cast}
-use mathlib.Core.Bool.{Bool, true, false, _||_, or-false, or-assoc}
+use mathlib.Core.List.{List, [], _∷_, _++_, List·Memᴰ·head, List·Memᴰ·tail, List·Memᴰ·not-nil}
+use mathlib.Core.Bool.{false, _||_, or-false, or-assoc}
 use Prim.Native.Nat.{ℕ, zero, suc, _+_, _-_, _*_, _≤_, _<_, min}
 use native.Mathlib.Omega.{arith}
 use native.Mathlib.Nat.{zero-min, min-zero, suc-min-suc, min-le-right}
@@ -10,7 +10,7 @@ use native.Mathlib.Decide.{ℕ-discrete}
 use borrow.Author.Tests.{ltb-true, lt-ltb, le-ltb}
 use lib.ListN.{length, getD, replicate}
 use lib.Dec.{ltb}
-use Rattle.lists.specs.Views.{View, _∈_, sees, shows, spend, pass, sift, caps, Covers}
+use Rattle.lists.specs.Views.{View, _∈_, sees, shows, spend, pass, sift, caps}
 use Rattle.lists.specs.Nested.{view, nested, left, onFront, Rise}
 use Rattle.lists.proofs.Bools.{by}
 

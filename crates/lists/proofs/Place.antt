@@ -1,14 +1,10 @@
 -- One more element: what was dropped before it came does not matter.
-use mathlib.Core.Path.{_≡_, refl, sym, ap, _∙_}
-use mathlib.Core.List.{List, [], _∷_, List·Memᴰ·head, List·Memᴰ·tail, List·Memᴰ·not-nil, List·Memᴰ·cases-cons}
+use mathlib.Core.Path.{_≡_, refl, ap, _∙_}
+use mathlib.Core.List.{List, [], _∷_, List·Memᴰ·head, List·Memᴰ·tail, List·Memᴰ·cases-cons}
 use mathlib.Core.Bool.{Bool, true, false}
 use mathlib.Core.Logic.{_⊎_, inl, inr}
-use Prim.Native.Nat.{ℕ}
-use native.Mathlib.Omega.{arith}
-use borrow.Author.Tests.{ltb-true, ltb-false, lt-ltb}
-use lib.Dec.{ltb}
-use Rattle.lists.specs.Views.{View, _∈_, put, shows, pass, sift, Covers}
-use Rattle.lists.specs.Order.{place, Rank, Ranked, Ranks}
+use Rattle.lists.specs.Views.{View, _∈_, put, shows, pass, sift}
+use Rattle.lists.specs.Order.{place, Rank, Ranked}
 use Rattle.lists.proofs.Bools.{by, untrue, clash}
 use Rattle.lists.proofs.Laws.{mem-put, sift-mem, put-mem, stay, step, step-mem, covers-pass-self}
 
@@ -61,17 +57,6 @@ module _ {A : Type 0} (above : A → A → Bool) where
         | inr k ↦ inr (step-mem vs (pass r vs) (y ∷ ys) (covers-pass-self vs r (y ∷ ys)) k)
       ])
 
-  -- The list stays ranked
-
-  ranked-put : (y : A) (b : Bool) (l : List A) → ((z : A) → z ∈ l → Rank above y z) → Ranked above l → Ranked above (put b y l)
-  ranked-put y true l h k = (h, k)
-  ranked-put y false l h k = k
-
-  pub ranked-sift : (vs : List (View A)) (xs : List A) → Ranked above xs → Ranked above (sift vs xs)
-  ranked-sift vs [] h = h
-  ranked-sift vs (y ∷ ys) h =
-      ranked-put y (shows vs y) (sift (pass y vs) ys) (λ z m. h .0 z (sift-mem (pass y vs) ys m)) (ranked-sift (pass y vs) ys (h .1))
-
   pub place-mem : {z : A} (x : A) (xs : List A) → z ∈ place above x xs → z ∈ x ∷ xs
   place-mem x [] m = m
   place-mem x (y ∷ ys) m =
@@ -86,18 +71,3 @@ module _ {A : Type 0} (above : A → A → Bool) where
             ]
       ])
       (λ e. rw e at m)
-
-  pub ranked-place : Ranks above → (x : A) (xs : List A) → Ranked above xs → Ranked above (place above x xs)
-  ranked-place k x [] h = (λ z m. absurd (List·Memᴰ·not-nil m), tt)
-  ranked-place k x (y ∷ ys) h =
-      by (above y x)
-      (λ e. rw e (λ z m. rank-cons y x ys (k .up x y e) (h .0) (place-mem x ys m), ranked-place k x ys (h .1)))
-      (λ e. rw e (λ z m. rank-cons x y ys (k .down x y e) (λ w n v q. k .down x y e v (h .0 w n v q)) m, h))
-
--- Equal keys: the new one stands before its equals.
-
-pub before-equals : {A : Type 0} (key : A → ℕ) → Ranks (λ y x. ltb (key x) (key y))
-before-equals key = record {
-  up = λ x y e z h. lt-ltb (key z) (key y) (omega (arith, ltb-true (key x) (key y) e, ltb-true (key z) (key x) h));
-  down = λ x y e z h. lt-ltb (key z) (key x) (omega (arith, ltb-false (key x) (key y) e, ltb-true (key z) (key y) h));
-}

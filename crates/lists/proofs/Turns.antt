@@ -1,5 +1,5 @@
 -- A walk over the first n of a list, turn by turn: what is left at i is the element at i and what is left at i + 1; at the end nothing is.
-use mathlib.Core.Path.{_≡_, sym, ap, _∙_}
+use mathlib.Core.Path.{_≡_, ap, _∙_}
 use mathlib.Core.List.{List, [], _∷_}
 use Prim.Native.Nat.{ℕ, zero, suc, _+_, _≤_, _<_, min}
 use native.Mathlib.Omega.{arith}

@@ -26,11 +26,6 @@ module _ {A : Type 0} (above : A → A → Bool) where
   Ranked [] = Unit {0}
   Ranked (y ∷ ys) = ((z : A) → z ∈ ys → Rank y z) × Ranked ys
 
-  -- What `place` needs of the test to keep a list ranked. `key x ≤ key y` and `key x < key y` both have it.
-  pub record Ranks : Type 0 where
-    pub up : (x y : A) → above y x ≡ true → Rank y x
-    pub down : (x y : A) → above y x ≡ false → Rank x y
-
   -- An order in which no two tie: none is above itself, and above goes on.
   pub record Strict : Type 0 where
     pub never : (x : A) → above x x ≡ false

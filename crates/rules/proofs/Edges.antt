@@ -6,20 +6,18 @@ use mathlib.Core.Logic.{_⊎_, inl, inr, _↔_}
 use Prim.Native.Nat.{ℕ, _+_, _*_, _≤_, _<_}
 use native.Mathlib.Omega.{arith}
 use native.Mathlib.Decide.{ℕ-discrete}
-use borrow.Author.Tests.{lt-ltb, le-ltb, eq-eqb, le-leb, leb-true, lt-leb}
-use lib.Dec.{ltb, leb, eqb, lit<, lit≤}
-use lib.ListN.{length, take}
+use borrow.Author.Tests.{lt-ltb, le-ltb, eq-eqb, le-leb, lt-leb}
+use lib.Dec.{leb, lit<, lit≤}
+use lib.ListN.{length}
 use Rattle.lists.specs.Views.{_∈_, count}
-use Rattle.lists.proofs.Bools.{by}
 use Rattle.rules.specs.Desk.{limit, within, names, roundedUp, need, needs, boardFits, loaded, isOpen}
 use Rattle.rules.specs.Moments.{Moment, InWindow, inWindow, Accepted, better, InTurn, windowOf, Answer, answer}
-use Rattle.rules.specs.SharedList.{FutureView, ShownIn, OnList}
+use Rattle.rules.specs.SharedList.{FutureView, ShownIn}
 use Rattle.rules.specs.Refusals.{disorder, replyNeed}
 use Rattle.rules.specs.Calls.{boardCall, withBoard, stepCall, stays}
 use Rattle.rules.specs.Calls.Reply.{refused, accepted}
-use Rattle.rules.specs.Edges.{board, request, board0, board1, boards01, id1, id2, requests01, Loading, Edges}
+use Rattle.rules.specs.Edges.{board, request, board0, board1, boards01, id1, requests01, Loading, Edges}
 use Rattle.rules.specs.declared.Board.{Board}
-use Rattle.rules.specs.declared.Entry.{Entry}
 use Rattle.rules.specs.declared.Desk.{Desk}
 use Rattle.rules.proofs.Ranks.{in-window, better-strict, answer-is, answer-only}
 use Rattle.rules.proofs.Refusing.{in-order}

@@ -1,12 +1,12 @@
 -- The one law of moments: number i is among the first `upto b x` exactly if it is a moment and at most x. All that rests on moments rests on this file.
-use mathlib.Core.Path.{_≡_, refl, sym, ap, _∙_}
-use mathlib.Core.Bool.{Bool, true, false, _&&_, and-eq-true-iff}
+use mathlib.Core.Path.{_≡_, refl, ap, _∙_}
+use mathlib.Core.Bool.{true, and-eq-true-iff}
 use mathlib.Core.Logic.{_⊎_, inl, inr, _↔_}
 use Prim.Native.Nat.{ℕ, zero, suc, _+_, _-_, _*_, _/_, _%_, _≤_, _<_, min}
 use native.Mathlib.Omega.{arith}
-use native.Mathlib.Nat.{mul-pos, mul-zero, zero-mul, suc-mul, add-mul, div-zero, div-add-mod', mul-mod-left, le-div-iff-mul-le, div-lt-iff-lt-mul, lt-div-mul-add, div-mul-le-self, div-le-self, le-mul-of-pos-right, min-le-left, min-le-right, le-min}
+use native.Mathlib.Nat.{mul-pos, mul-zero, zero-mul, suc-mul, add-mul, div-zero, div-add-mod', mul-mod-left, le-div-iff-mul-le, div-lt-iff-lt-mul, div-mul-le-self, div-le-self, le-mul-of-pos-right, min-le-left, min-le-right, le-min}
 use borrow.Author.Tests.{ltb-true, ltb-false, lt-ltb, eqb-true, eq-eqb, leb-true, leb-false, le-leb}
-use lib.Dec.{ltb, leb, eqb}
+use lib.Dec.{ltb, leb}
 use Rattle.lists.proofs.Bools.{by}
 use Rattle.rules.specs.Desk.{limit, roundedUp}
 use Rattle.rules.specs.Moments.{Moment, isMoment, moment, upto}

@@ -1,18 +1,17 @@
 -- Windows and ranks: each test is its sentence; better is an order in which no two accepted requests tie; the answer is the best k of the window.
-use mathlib.Core.Path.{_≡_, refl, sym, ap, _∙_}
+use mathlib.Core.Path.{_≡_, refl, sym, _∙_}
 use mathlib.Core.List.{List, [], _∷_}
 use mathlib.Core.Bool.{Bool, true, false, _&&_, _||_, and-eq-true-iff}
-use mathlib.Core.Logic.{_⊎_, inl, inr, _↔_}
-use Prim.Native.Nat.{ℕ, _+_, _≤_, _<_}
+use mathlib.Core.Logic.{inl, inr, _↔_}
+use Prim.Native.Nat.{ℕ, _+_, _<_}
 use native.Mathlib.Omega.{arith}
 use borrow.Author.Tests.{ltb-true, ltb-false, lt-ltb, eqb-true, eq-eqb, leb-true, le-leb}
-use lib.Dec.{ltb, leb, eqb}
+use lib.Dec.{ltb, eqb}
 use lib.ListN.{length}
 use Rattle.lists.specs.Views.{_∈_}
 use Rattle.lists.specs.Order.{ranked, Strict, Falling}
 use Rattle.lists.proofs.Bools.{by, clash, untrue, either}
 use Rattle.lists.proofs.Best.{those-onto, length-those, count-ranked, ranked-mem, falling-place, falling-those, best-first, best-only, best-same}
-use Rattle.rules.specs.Desk.{names}
 use Rattle.rules.specs.Moments.{InWindow, inWindow, Accepted, Better, better, InTurn, windowOf, Answer, answer}
 use Rattle.rules.specs.declared.Board.{Board}
 use Rattle.rules.specs.declared.Entry.{Entry}

@@ -1,18 +1,17 @@
 -- Refusals: a number is given exactly when its rule is the first that is given; a desk is in disorder exactly when it is not in order.
-use mathlib.Core.Path.{_≡_, refl, sym, ap, _∙_}
+use mathlib.Core.Path.{_≡_, refl, ap, _∙_}
 use mathlib.Core.List.{List, [], _∷_}
-use mathlib.Core.Bool.{Bool, true, false, cond, not, _&&_, _||_}
+use mathlib.Core.Bool.{Bool, true, false, cond, not, _&&_}
 use mathlib.Core.Logic.{_⊎_, inl, inr, _↔_}
-use Prim.Native.Nat.{ℕ, _≤_, _<_}
+use Prim.Native.Nat.{ℕ, _<_}
 use native.Mathlib.Omega.{arith}
 use borrow.Author.Tests.{ltb-false, le-ltb, leb-true, le-leb, not-false}
-use lib.Dec.{eqb, ltb, leb}
+use lib.Dec.{eqb, ltb}
 use lib.ListN.{length}
-use Rattle.lists.specs.Views.{all}
 use Rattle.lists.proofs.Bools.{by, clash, neither}
-use Rattle.rules.specs.Desk.{limit, needs, boardFits, loaded, listed, isOpen}
+use Rattle.rules.specs.Desk.{limit, needs, loaded, isOpen}
 use Rattle.rules.specs.Moments.{reached}
-use Rattle.rules.specs.Refusals.{Rule, judged, Refuses, entryFits, falls, disorder, InOrder, stepRules}
+use Rattle.rules.specs.Refusals.{Rule, judged, Refuses, disorder, InOrder, stepRules}
 use Rattle.rules.specs.Calls.{Reply, refusal, Outcome, StepOutcome, stays, movedTo, stepCall}
 use Rattle.rules.specs.Calls.Reply.{refused, accepted}
 use Rattle.rules.specs.declared.Desk.{Desk}

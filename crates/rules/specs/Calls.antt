@@ -1,6 +1,6 @@
 -- Each call of document 01: from the desk, its arguments and the caller's slice of words to the reply, the desk and the slice afterwards.
 use mathlib.Core.List.{List, [], _∷_, _++_}
-use mathlib.Core.Bool.{Bool, cond}
+use mathlib.Core.Bool.{cond}
 use Prim.Native.Nat.{ℕ, suc, _+_}
 use lib.Dec.{eqb}
 use lib.ListN.{length, getD, set, drop}

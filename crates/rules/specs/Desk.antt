@@ -6,7 +6,6 @@ use lib.Dec.{eqb, ltb, leb}
 use lib.ListN.{take, replicate}
 use Rattle.rules.specs.declared.Board.{Board}
 use Rattle.rules.specs.declared.Entry.{Entry}
-use Rattle.rules.specs.declared.Time.{Time}
 use Rattle.rules.specs.declared.Desk.{Desk}
 
 -- the last tick of the clock, and the highest score

@@ -5,11 +5,11 @@ use mathlib.Core.Bool.{true, false}
 use mathlib.Core.Logic.{_⊎_, _↔_}
 use Prim.Native.Nat.{ℕ, _+_, _≤_, _<_}
 use lib.ListN.{length}
-use Rattle.rules.specs.Desk.{need, needs, names, boardFits, loaded, isOpen, fresh}
+use Rattle.rules.specs.Desk.{need, needs, names, boardFits, loaded, isOpen}
 use Rattle.rules.specs.Moments.{Moment, InWindow, Accepted, Answer}
 use Rattle.rules.specs.SharedList.{FutureView, ShownIn, OnList}
 use Rattle.rules.specs.Refusals.{disorder, replyNeed}
-use Rattle.rules.specs.Calls.{Outcome, boardCall, withBoard, stepCall, stays}
+use Rattle.rules.specs.Calls.{boardCall, withBoard, stepCall, stays}
 use Rattle.rules.specs.Calls.Reply.{refused, accepted}
 use Rattle.rules.specs.declared.Board.{Board}
 use Rattle.rules.specs.declared.Entry.{Entry}

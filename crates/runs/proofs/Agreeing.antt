@@ -1,18 +1,18 @@
 -- What ties a desk to the ledger of the same run, and that it holds of the fresh desk.
-use mathlib.Core.Path.{_≡_, refl, sym, ap, subst, _∙_}
+use mathlib.Core.Path.{_≡_, refl, sym, ap, _∙_}
 use mathlib.Core.List.{List, [], _∷_, map, List·Memᴰ·head, List·Memᴰ·tail, List·Memᴰ·not-nil}
-use mathlib.Core.Bool.{Bool, true, false, _&&_, and-eq-true-iff}
-use mathlib.Core.Logic.{_⊎_, inl, inr}
-use Prim.Native.Nat.{ℕ, _+_, _≤_, _<_}
+use mathlib.Core.Bool.{true, false}
+use mathlib.Core.Logic.{inl, inr}
+use Prim.Native.Nat.{_≤_, _<_}
 use native.Mathlib.Omega.{arith}
 use borrow.Author.Tests.{le-leb}
-use lib.Dec.{eqb, leb}
+use lib.Dec.{eqb}
 use lib.ListN.{length}
 use Rattle.lists.specs.Views.{_∈_, all}
 use Rattle.lists.specs.Order.{ranked, Falling}
 use Rattle.lists.proofs.Laws.{sift-mem}
 use Rattle.lists.proofs.Best.{ranked-mem, falling-sift}
-use Rattle.rules.specs.Desk.{limit, needs, boardFits, loaded, listed, isOpen, fresh}
+use Rattle.rules.specs.Desk.{limit, needs, boardFits, loaded, listed, fresh}
 use Rattle.rules.specs.Moments.{Accepted, entryOf, Better, better, InTurn}
 use Rattle.rules.specs.Refusals.{entryFits, fallsFrom, falls, InOrder}
 use Rattle.rules.specs.declared.Time.{Time}

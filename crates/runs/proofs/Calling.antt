@@ -1,18 +1,17 @@
 -- One call: a desk and the ledger of the same run are refused alike, and accepted they go on alike.
-use mathlib.Core.Path.{_≡_, refl, sym, ap, subst, _∙_}
-use mathlib.Core.List.{List, [], _∷_, _++_, map, List·Memᴰ·head, List·Memᴰ·tail, List·Memᴰ·not-nil, List·Memᴰ·cases-cons}
-use mathlib.Core.Bool.{Bool, true, false, cond, not, _&&_, and-eq-true-iff}
+use mathlib.Core.Path.{_≡_, sym, ap, _∙_}
+use mathlib.Core.List.{List, [], _∷_, _++_, map}
+use mathlib.Core.Bool.{true, false, and-eq-true-iff}
 use mathlib.Core.Logic.{_⊎_, inl, inr}
-use Prim.Native.Nat.{ℕ, suc, _+_, _≤_, _<_}
+use Prim.Native.Nat.{_+_, _<_}
 use native.Mathlib.Omega.{arith}
 use native.Mathlib.Numerals.{add-one}
-use borrow.Author.Tests.{ltb-false, leb-false, eqb-false, not-false}
-use lib.Dec.{eqb, ltb, leb}
-use lib.ListN.{length, take, set, length-set, length-append}
+use borrow.Author.Tests.{ltb-false, leb-false, not-false}
+use lib.ListN.{length, length-set, length-append}
 use lib.Seq.{take-suc-set}
-use Rattle.lists.specs.Views.{_∈_, all}
+use Rattle.lists.specs.Views.{all}
 use Rattle.rules.specs.Moments.{entryOf}
-use Rattle.rules.specs.Desk.{need, needs, boardFits, loaded, listed, isOpen}
+use Rattle.rules.specs.Desk.{need, needs, boardFits}
 use Rattle.rules.specs.Refusals.{Rule, judged, disorder}
 use Rattle.rules.specs.Calls.{Reply, Outcome, withBoard, boardCall, opened, openCall}
 use Rattle.rules.specs.Calls.Reply.{refused, accepted}
@@ -20,7 +19,7 @@ use Rattle.rules.specs.declared.Board.{Board}
 use Rattle.rules.specs.declared.Time.{Time}
 use Rattle.rules.specs.declared.Desk.{Desk}
 use Rattle.rules.proofs.Refusing.{None, Denied, Granted, judged-cases, order-in}
-use Rattle.runs.specs.Ledger.{Ledger, open?, onList, entries, loadRules, openingRules, withBoard as withBoardL, opened as openedL}
+use Rattle.runs.specs.Ledger.{Ledger, entries, loadRules, openingRules, withBoard as withBoardL, opened as openedL}
 use Rattle.runs.proofs.Agreeing.{Sound, Same, same-order, nothing-listed}
 
 -- Both go on, or both stay.

@@ -2,30 +2,29 @@
 -- better requests before: later ones only push others down, and a moment that still holds it was a future view all along.
 use mathlib.Core.Path.{_≡_, refl, sym, ap, subst, _∙_}
 use mathlib.Core.List.{List, [], _∷_, _++_, append-assoc, List·Memᴰ·not-nil}
-use mathlib.Core.Bool.{Bool, true, false, cond, not}
-use mathlib.Core.Logic.{_⊎_, inl, inr, _↔_}
-use Prim.Native.Nat.{ℕ, zero, suc, _+_, _-_, _≤_, _<_}
+use mathlib.Core.Bool.{true, cond}
+use mathlib.Core.Logic.{_⊎_, inl, inr}
+use Prim.Native.Nat.{ℕ, zero, suc, _-_, _≤_, _<_}
 use native.Mathlib.Omega.{arith}
 use native.Mathlib.Nat.{le-refl}
 use native.Mathlib.Decide.{ℕ-discrete}
-use borrow.Author.Tests.{ltb-false, le-ltb, leb-true, le-leb, ne-eqb, eqb-false, not-false}
-use lib.Dec.{eqb, ltb, leb}
+use borrow.Author.Tests.{ltb-false, le-ltb, leb-true, le-leb, ne-eqb, not-false}
+use lib.Dec.{eqb, leb}
 use lib.ListN.{length, replicate, length-replicate}
-use Rattle.lists.specs.Views.{_∈_, count, those}
-use Rattle.lists.proofs.Bools.{by, clash}
+use Rattle.lists.specs.Views.{_∈_, count}
+use Rattle.lists.proofs.Bools.{by}
 use Rattle.rules.specs.Desk.{limit, fresh}
 use Rattle.rules.specs.Moments.{Moment, inWindow, Accepted, better, windowOf, answer}
-use Rattle.rules.specs.SharedList.{FutureView, ShownIn, OnList}
 use Rattle.rules.specs.Refusals.{judged, replyNeed}
 use Rattle.rules.specs.Calls.Reply.{refused}
 use Rattle.rules.specs.declared.Board.{Board}
 use Rattle.rules.specs.declared.Desk.{Desk}
 use Rattle.rules.proofs.Refusing.{None, Denied, Granted, judged-cases}
 use Rattle.rules.proofs.Listing.{list-exactly, answer-shown}
-use Rattle.runs.specs.Runs.{Call, Said, next, after}
+use Rattle.runs.specs.Runs.{Call, next, after}
 use Rattle.runs.specs.Runs.Call.{load, opening, request, step, measure, place, read}
 use Rattle.runs.specs.Runs.Said.{stepped}
-use Rattle.runs.specs.Ledger.{Ledger, open?, onList, requestRules, stepRules, withRequest, arriving, atClock, stop, stepSaid, ledgerSaid, ledgerNext, ledgerAfter}
+use Rattle.runs.specs.Ledger.{Ledger, open?, onList, requestRules, stepRules, withRequest, arriving, atClock, stop, stepSaid, ledgerNext, ledgerAfter}
 use Rattle.runs.specs.Theorems.{kept, Goes, Continues, ShownLater, Exactly}
 use Rattle.runs.proofs.Agreeing.{Sound}
 use Rattle.runs.proofs.Calling.{On}

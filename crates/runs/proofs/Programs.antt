@@ -1,6 +1,6 @@
 -- The composition of the functions' promises along a run is the run of the definitions: each promise equates reply, desk and slice with its definition.
-use mathlib.Core.Path.{_≡_, refl, sym, ap, ap₂, subst, _∙_}
-use mathlib.Core.List.{List, [], _∷_}
+use mathlib.Core.Path.{_≡_, refl, ap, ap₂, _∙_}
+use mathlib.Core.List.{List, _∷_}
 use Rattle.rules.specs.Calls.{Outcome, StepOutcome}
 use Rattle.rules.specs.declared.Desk.{Desk}
 use Rattle.runs.specs.Runs.{Call, Said, said, next, replies, after}

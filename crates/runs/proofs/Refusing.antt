@@ -1,8 +1,8 @@
 -- Theorem D: a refused call gives back the desk and the slice by its definition, so nothing later can tell that it was made.
 use mathlib.Core.Path.{_≡_, refl, ap}
-use mathlib.Core.List.{List, _∷_}
+use mathlib.Core.List.{_∷_}
 use Rattle.rules.specs.Refusals.{boardRules, openRules, requestRules}
-use Rattle.rules.specs.Calls.{StepOutcome, boardCall, withBoard, openCall, opened, requestCall, requested, entryAt, stepCall}
+use Rattle.rules.specs.Calls.{StepOutcome, boardCall, withBoard, openCall, opened, requestCall, requested, entryAt}
 use Rattle.rules.specs.declared.Desk.{Desk}
 use Rattle.rules.proofs.Refusing.{stood, step-stood}
 use Rattle.runs.specs.Runs.{Call, said, next, replies, after}

@@ -1,13 +1,12 @@
 -- An accepted request: it is placed by score, and what the rule names afterwards is what it names of all requests, the new one with them.
-use mathlib.Core.Path.{_≡_, refl, sym, ap, subst, _∙_}
+use mathlib.Core.Path.{_≡_, refl, sym, ap, _∙_}
 use mathlib.Core.List.{List, [], _∷_, map, List·Memᴰ·head, List·Memᴰ·tail, List·Memᴰ·cases-cons}
-use mathlib.Core.Bool.{Bool, true, false, not, _&&_, _||_, and-false, or-false}
+use mathlib.Core.Bool.{true, and-false, or-false}
 use mathlib.Core.Logic.{inl, inr}
-use Prim.Native.Nat.{ℕ, suc, _+_, _≤_, _<_}
+use Prim.Native.Nat.{ℕ, _<_}
 use native.Mathlib.Omega.{arith}
 use borrow.Author.Tests.{le-ltb, not-false}
-use lib.Dec.{eqb, ltb, leb}
-use lib.ListN.{length}
+use lib.Dec.{ltb}
 use Rattle.lists.specs.Views.{_∈_, sift}
 use Rattle.lists.specs.Order.{place, ranked}
 use Rattle.lists.proofs.Bools.{by, clash}
@@ -15,19 +14,18 @@ use Rattle.lists.proofs.Quota.{keep-sift}
 use Rattle.lists.proofs.Best.{falling-ranks}
 use Rattle.lists.proofs.Along.{map-sift}
 use Rattle.lists.proofs.Place.{request}
-use Rattle.rules.specs.Desk.{requestFits, listed, loaded}
+use Rattle.rules.specs.Desk.{requestFits}
 use Rattle.rules.specs.Moments.{Accepted, entryOf, better}
 use Rattle.rules.specs.SharedList.{views, named, higher, placed}
 use Rattle.rules.specs.Refusals.{judged, entryFits}
-use Rattle.rules.specs.Calls.{Reply, withList, requested, entryAt, requestCall}
+use Rattle.rules.specs.Calls.{requested, entryAt, requestCall}
 use Rattle.rules.specs.Calls.Reply.{refused, accepted}
-use Rattle.rules.specs.declared.Entry.{Entry}
 use Rattle.rules.specs.declared.Desk.{Desk}
 use Rattle.rules.proofs.Refusing.{None}
 use Rattle.rules.proofs.Fitting.{entry-fits}
 use Rattle.rules.proofs.Ranks.{better-strict, falling-ranked}
 use Rattle.runs.specs.Ledger.{Ledger, seen, onList, entries, requestRules, withRequest, arriving}
-use Rattle.runs.proofs.Agreeing.{Sound, Same, listed-request}
+use Rattle.runs.proofs.Agreeing.{Sound, listed-request}
 use Rattle.runs.proofs.Settling.{with-list}
 use Rattle.runs.proofs.Calling.{On, asked-alike, ordered}
 

@@ -1,8 +1,8 @@
 -- Theorem A, call by call: what ties the desk to its ledger is kept by every call, and gives equal replies. Theorem C reads off it.
 use mathlib.Core.Path.{_≡_, refl, sym, ap, ap₂, subst, _∙_}
 use mathlib.Core.List.{List, [], _∷_, List·Memᴰ·head, List·Memᴰ·tail, List·Memᴰ·not-nil}
-use mathlib.Core.Bool.{true, false, cond, not, and-eq-true-iff}
-use Prim.Native.Nat.{ℕ, _≤_, _<_}
+use mathlib.Core.Bool.{true, not, and-eq-true-iff}
+use Prim.Native.Nat.{ℕ, _<_}
 use native.Mathlib.Omega.{arith}
 use borrow.Author.Tests.{leb-false, eq-eqb}
 use lib.Dec.{eqb, leb}
@@ -10,18 +10,18 @@ use lib.ListN.{length, getD}
 use lib.Seq.{getD-take}
 use Rattle.lists.specs.Views.{_∈_, all}
 use Rattle.lists.proofs.Bools.{by, clash}
-use Rattle.rules.specs.Desk.{loaded, listed, fresh, noEntry}
+use Rattle.rules.specs.Desk.{fresh, noEntry}
 use Rattle.rules.specs.Messages.{message}
-use Rattle.rules.specs.Moments.{Answer, answer}
+use Rattle.rules.specs.Moments.{Answer}
 use Rattle.rules.specs.Refusals.{Rule, judged, readerRules}
-use Rattle.rules.specs.Calls.{Reply, refusal, readerCall, lengthCall, placeCall}
+use Rattle.rules.specs.Calls.{refusal, readerCall, lengthCall, placeCall}
 use Rattle.rules.specs.Calls.Reply.{refused, accepted}
 use Rattle.rules.specs.declared.Desk.{Desk}
 use Rattle.rules.proofs.Ranks.{answer-is, answer-only}
 use Rattle.rules.proofs.Listing.{list-exactly}
 use Rattle.runs.specs.Runs.{Call, Said, said, next, replies, after}
 use Rattle.runs.specs.Runs.Call.{load, opening, request, step, measure, place, read}
-use Rattle.runs.specs.Runs.Said.{asked, stepped, measured, found, heard}
+use Rattle.runs.specs.Runs.Said.{asked, stepped, measured, found}
 use Rattle.runs.specs.Ledger.{Ledger, empty, onList, entries, loadRules, openingRules, requestRules, stepRules, placeRules, ledgerSaid, ledgerNext, ledgerReplies, ledgerAfter}
 use Rattle.runs.specs.Theorems.{kept, SameAnswers, number, Room}
 use Rattle.runs.proofs.Agreeing.{fresh-same, empty-sound, falling-list, list-room, same-order}

@@ -1,23 +1,23 @@
 -- An accepted step: the answers of the shared list are those of whole windows, and what it keeps is what the rule names at the new clock.
 use mathlib.Core.Path.{_≡_, refl, sym, ap, subst, _∙_}
-use mathlib.Core.List.{List, [], _∷_, _++_, map, List·Memᴰ·head, List·Memᴰ·tail, Memᴰ·map, Memᴰ·of-map}
-use mathlib.Core.Bool.{Bool, true, false, cond, not, and-eq-true-iff}
+use mathlib.Core.List.{List, [], _∷_, map, List·Memᴰ·head, List·Memᴰ·tail, Memᴰ·map, Memᴰ·of-map}
+use mathlib.Core.Bool.{cond}
 use mathlib.Core.Logic.{_⊎_, inl, inr}
 use Prim.Native.Nat.{ℕ, suc, _+_, _≤_, _<_}
 use native.Mathlib.Omega.{arith}
-use borrow.Author.Tests.{ltb-false, leb-true, leb-false, le-leb, eqb-true, eqb-false, not-false}
-use lib.Dec.{eqb, ltb, leb}
+use borrow.Author.Tests.{ltb-false, leb-true, leb-false, eqb-false, not-false}
+use lib.Dec.{eqb, leb}
 use lib.ListN.{length}
 use lib.Seq.{take-nil}
 use Rattle.lists.specs.Views.{View, _∈_, along, first, sift, Covers}
 use Rattle.lists.specs.Order.{ranked}
-use Rattle.lists.proofs.Bools.{by, clash, untrue}
+use Rattle.lists.proofs.Bools.{by, untrue}
 use Rattle.lists.proofs.Quota.{keep-sift}
 use Rattle.lists.proofs.Laws.{step as stepLaw, answers}
 use Rattle.lists.proofs.Best.{those-none, ranked-mem}
 use Rattle.lists.proofs.Along.{map-sift, map-first}
 use Rattle.rules.specs.Desk.{limit}
-use Rattle.rules.specs.Moments.{Moment, isMoment, inWindow, Accepted, entryOf, better, answer, Reached, reached}
+use Rattle.rules.specs.Moments.{Moment, isMoment, inWindow, Accepted, entryOf, better, answer, Reached}
 use Rattle.rules.specs.SharedList.{FutureView, viewAt, views, named}
 use Rattle.rules.specs.Refusals.{Rule, judged}
 use Rattle.rules.specs.Calls.{shownAt, blocks, StepOutcome, stays, movedTo, stepCall}

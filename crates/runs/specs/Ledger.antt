@@ -10,7 +10,7 @@ use Rattle.rules.specs.Desk.{need, needs, boardFits, requestFits, clockFits, no
 use Rattle.rules.specs.Moments.{isMoment, Accepted, entryOf, better, answer, reached}
 use Rattle.rules.specs.SharedList.{views}
 use Rattle.rules.specs.Refusals.{Rule, _when_, judged, replyNeed}
-use Rattle.rules.specs.Calls.{Reply, Steps, block, written, readerCall}
+use Rattle.rules.specs.Calls.{block, written, readerCall}
 use Rattle.rules.specs.Calls.Reply.{refused, accepted}
 use Rattle.rules.specs.declared.Board.{Board}
 use Rattle.rules.specs.declared.Entry.{Entry}

@@ -1,9 +1,9 @@
 -- The walk as functions on one flat list: how many entries each future view shows so far. A board's cells stand together.
-use mathlib.Core.List.{List, [], _∷_, _++_}
+use mathlib.Core.List.{List, [], _∷_}
 use mathlib.Core.Bool.{Bool, false, cond, _&&_, _||_}
 use Prim.Native.Nat.{ℕ, zero, suc, _+_, min}
 use lib.Dec.{ltb, leb}
-use lib.ListN.{take, drop, getD}
+use lib.ListN.{drop, getD}
 use Rattle.lists.specs.Nested.{onFront, from}
 use Rattle.rules.specs.Cells.{cells, held}
 use Rattle.rules.specs.declared.Board.{Board}

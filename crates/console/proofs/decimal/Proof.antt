@@ -1,88 +1,65 @@
-use Prim.Native.Nat.{ℕ, _+_, _-_, _≤_, _<_}
-use mathlib.Core.Path.{_≡_}
+-- A number of 64 bits has at most 20 digits, since ten to the 20 is beyond it.
+use Prim.Native.Nat.{ℕ, _-_, _^_, _≤_, _<_}
 use native.Mathlib.Omega.{arith}
-use lib.ListN.{length, length-set, length-take}
+use native.Mathlib.Nat.{pow-le-pow-right}
+use borrow.Author.Tests.{leb-true, leb-false}
+use lib.Dec.{leb}
+use lib.ListN.{length, take, length-take}
+use Rattle.lists.proofs.Bools.{by}
 use borrow.Author.Needs.{needs}
 use Rattle.console.proofs.decimal.Statement.{statement}
 use Rattle.console.proofs.decimal.Tie as tie
-use Rattle.console.proofs.decimal.Reads as reads
-use Rattle.console.proofs.decimal.Lts as lts
-use Rattle.console.proofs.digits.Reads as digits-reads
 
-abbrev Inv-loop : tie.InvT-loop
-Inv-loop n after output₀ at end rest₀ i₀ output rest i = (length output ≡ length output₀) × (i ≤ end)
+few : (n k : ℕ) → n < 2 ^ 64 → (1 < k → 10 ^ (k - 1) ≤ n) → k ≤ 20
+few n k h f =
+    by (leb k 20) (λ e. leb-true k 20 e)
+    (λ e.
+    let l : 20 < k = leb-false k 20 e in
+    let p : 0 < 10 = omega arith in
+    let q : 20 ≤ k - 1 = omega arith in
+    let m : 10 ^ 20 ≤ 10 ^ (k - 1) = pow-le-pow-right p q in
+    absurd (omega (arith, f (omega arith))))
 
-abbrev μ-loop : tie.MeasureT-loop
-μ-loop n after output₀ at end rest₀ i₀ output rest i = i
+-- so many digits were written
+here : (c : tie.After-decimal) → length (take (c .decimal .result) (c .decimal .last .1 .0)) ≤ 20
+here c =
+    let start = c .before .before .before in
+    let h = few (start .args .n) (c .decimal .result) (start .fits .n .fits) (c .decimal .ensures .1 .0 .2) in
+    simp length-take (omega arith)
 
--- src/main.rt:270:20
-digits-requires : tie.Need-digits-requires Inv-loop μ-loop
-digits-requires c κs = search needs
+decimal-requires : tie.Need-decimal-requires
+decimal-requires c κs = search needs
 
--- src/main.rt:270:15
-add-end : tie.Need-add-end Inv-loop μ-loop
-add-end c = search needs
+array-share-prefix-text : tie.Need-array-share-prefix-text
+array-share-prefix-text c = search needs
 
--- src/main.rt:273:5
-loop-holds : tie.Need-loop-holds Inv-loop μ-loop
-loop-holds c = search needs
+slice-aggregate-put : tie.Need-slice-aggregate-put
+slice-aggregate-put c = search needs
 
--- src/main.rt:274:9
-sub-i : tie.Need-sub-i Inv-loop μ-loop
-sub-i c = search needs
+put-requires : tie.Need-put-requires
+put-requires c κs = omega (arith, here (c .before .before))
 
--- src/main.rt:275:28
-cast-output : tie.Need-cast-output Inv-loop μ-loop
-cast-output c = search needs
+slice-write-output : tie.Need-slice-write-output
+slice-write-output c = omega (arith, here (c .before .before .before .before .before))
 
--- src/main.rt:275:21
-add-output : tie.Need-add-output Inv-loop μ-loop
-add-output c = search needs
+add-result : tie.Need-add-result
+add-result c = omega (arith, here (c .before .before .before .before .before))
 
--- src/main.rt:275:9
-slice-write-output : tie.Need-slice-write-output Inv-loop μ-loop
-slice-write-output c = search needs
+same-length : tie.Need-same-length
+same-length c = search needs
 
--- src/main.rt:273:5
-loop-less : tie.Need-loop-less Inv-loop μ-loop
-loop-less c = search needs
-
--- src/main.rt:273:5
-loop-again : tie.Need-loop-again Inv-loop μ-loop
-loop-again c = simp length-set (omega arith)
-
--- src/main.rt:278:5
-slice-write-output-2 : tie.Need-slice-write-output-2 Inv-loop μ-loop
-slice-write-output-2 c = search needs
-
--- src/main.rt:279:5
-add-result : tie.Need-add-result Inv-loop μ-loop
-add-result c = search needs
-
--- src/main.rt:266:1
-same-length : tie.Need-same-length Inv-loop μ-loop
-same-length c = simp length-set (omega arith)
-
--- src/main.rt:266:1
-returns : tie.Need-returns Inv-loop μ-loop
-returns c = search needs
+returns : tie.Need-returns
+returns c = omega (arith, here (c .before .before .before .before .before))
 
 pub decimal-spec : {M : Type 1} → statement M
 decimal-spec =
     tie.close
     (tie.spec
-    Inv-loop
-    μ-loop
-    digits-requires
-    add-end
-    loop-holds
-    sub-i
-    cast-output
-    add-output
+    decimal-requires
+    array-share-prefix-text
+    slice-aggregate-put
+    put-requires
     slice-write-output
-    loop-less
-    loop-again
-    slice-write-output-2
     add-result
     same-length
     returns)

@@ -1,12 +1,11 @@
-use Prim.Native.Nat.{ℕ, _+_, _-_, _≤_, _<_}
+-- The bytes are copied forwards within the input, whose length stays; the measure is how many are still to be copied.
+use Prim.Native.Nat.{_-_}
 use mathlib.Core.Path.{_≡_}
 use native.Mathlib.Omega.{arith}
-use lib.ListN.{length, length-set, length-take}
+use lib.ListN.{length, length-set}
 use borrow.Author.Needs.{needs}
 use Rattle.console.proofs.keep.Statement.{statement}
 use Rattle.console.proofs.keep.Tie as tie
-use Rattle.console.proofs.keep.Reads as reads
-use Rattle.console.proofs.keep.Lts as lts
 
 abbrev Inv-loop : tie.InvT-loop
 Inv-loop input₀ end left i₀ input i = length input ≡ length input₀
@@ -14,43 +13,33 @@ Inv-loop input₀ end left i₀ input i = length input ≡ length input₀
 abbrev μ-loop : tie.MeasureT-loop
 μ-loop input₀ end left i₀ input i = left - i
 
--- src/main.rt:72:5
 loop-holds : tie.Need-loop-holds Inv-loop μ-loop
 loop-holds c = search needs
 
--- src/main.rt:73:26
 sub-input : tie.Need-sub-input Inv-loop μ-loop
 sub-input c = search needs
 
--- src/main.rt:73:26
 add-input : tie.Need-add-input Inv-loop μ-loop
 add-input c = search needs
 
--- src/main.rt:73:20
 slice-read-input : tie.Need-slice-read-input Inv-loop μ-loop
 slice-read-input c = search needs
 
--- src/main.rt:73:9
 slice-write-input : tie.Need-slice-write-input Inv-loop μ-loop
 slice-write-input c = omega arith
 
--- src/main.rt:72:9
 add-i : tie.Need-add-i Inv-loop μ-loop
 add-i c = search needs
 
--- src/main.rt:72:5
 loop-less : tie.Need-loop-less Inv-loop μ-loop
 loop-less c = search needs
 
--- src/main.rt:72:5
 loop-again : tie.Need-loop-again Inv-loop μ-loop
 loop-again c = simp length-set (omega arith)
 
--- src/main.rt:69:1
 same-length : tie.Need-same-length Inv-loop μ-loop
 same-length c = search needs
 
--- src/main.rt:69:1
 returns : tie.Need-returns Inv-loop μ-loop
 returns c = search needs
 

@@ -1,12 +1,11 @@
-use Prim.Native.Nat.{ℕ, _+_, _-_, _≤_, _<_}
+-- The output keeps its length; the measure is what is left of the word.
+use Prim.Native.Nat.{_-_}
 use mathlib.Core.Path.{_≡_}
 use native.Mathlib.Omega.{arith}
-use lib.ListN.{length, length-set, length-take}
+use lib.ListN.{length, length-set}
 use borrow.Author.Needs.{needs}
 use Rattle.console.proofs.put.Statement.{statement}
 use Rattle.console.proofs.put.Tie as tie
-use Rattle.console.proofs.put.Reads as reads
-use Rattle.console.proofs.put.Lts as lts
 
 abbrev Inv-loop : tie.InvT-loop
 Inv-loop word output₀ at i₀ i-end output i = length output ≡ length output₀
@@ -14,43 +13,33 @@ Inv-loop word output₀ at i₀ i-end output i = length output ≡ length output
 abbrev μ-loop : tie.MeasureT-loop
 μ-loop word output₀ at i₀ i-end output i = length word - i
 
--- src/main.rt:259:5
 loop-holds : tie.Need-loop-holds Inv-loop μ-loop
 loop-holds c = search needs
 
--- src/main.rt:260:26
 shared-slice-read-output : tie.Need-shared-slice-read-output Inv-loop μ-loop
 shared-slice-read-output c = search needs
 
--- src/main.rt:260:16
 add-output : tie.Need-add-output Inv-loop μ-loop
 add-output c = search needs
 
--- src/main.rt:260:9
 slice-write-output : tie.Need-slice-write-output Inv-loop μ-loop
 slice-write-output c = search needs
 
--- src/main.rt:259:9
 add-i : tie.Need-add-i Inv-loop μ-loop
 add-i c = search needs
 
--- src/main.rt:259:5
 loop-less : tie.Need-loop-less Inv-loop μ-loop
 loop-less c = search needs
 
--- src/main.rt:259:5
 loop-again : tie.Need-loop-again Inv-loop μ-loop
 loop-again c = simp length-set (omega arith)
 
--- src/main.rt:262:5
 add-result : tie.Need-add-result Inv-loop μ-loop
 add-result c = search needs
 
--- src/main.rt:255:1
 same-length : tie.Need-same-length Inv-loop μ-loop
 same-length c = search needs
 
--- src/main.rt:255:1
 returns : tie.Need-returns Inv-loop μ-loop
 returns c = search needs
 

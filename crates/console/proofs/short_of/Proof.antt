@@ -1,32 +1,25 @@
+-- Each case is the definition at what the answer was found to be.
 use mathlib.Core.Path.{sym, ap}
 use Rattle.console.specs.Steps.{shortOf}
 use borrow.Author.Needs.{needs}
 use Rattle.console.proofs.short_of.Statement.{statement}
 use Rattle.console.proofs.short_of.Tie as tie
-use Rattle.console.proofs.short_of.Reads as reads
-use Rattle.console.proofs.short_of.Lts as lts
 
--- src/main.rt:127:13
 enum-known-answer : tie.Need-enum-known-answer
 enum-known-answer c = search needs
 
--- src/main.rt:131:31
 enum-told : tie.Need-enum-told
 enum-told c = search needs
 
--- src/main.rt:132:33
 enum-told-2 : tie.Need-enum-told-2
 enum-told-2 c = search needs
 
--- src/main.rt:122:1
 returns : tie.Need-returns
 returns c = sym (ap (λ a. shortOf a (c .before .before .before .args .target)) (c .before .answer .given .1))
 
--- src/main.rt:122:1
 returns-2 : tie.Need-returns-2
 returns-2 c = search needs
 
--- src/main.rt:122:1
 returns-3 : tie.Need-returns-3
 returns-3 c = search needs
 

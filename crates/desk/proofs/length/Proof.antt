@@ -1,8 +1,7 @@
 -- The answer is by the one rule.
-use borrow.Author.Tests.{eq-eqb, ne-eqb, lt-leb, le-leb}
 use Rattle.rules.specs.Refusals.{disorder}
 use Rattle.rules.proofs.Refusing.{in-order}
-use mathlib.Core.Path.{_≡_, refl, sym, ap, _∙_}
+use mathlib.Core.Path.{_≡_}
 use mathlib.Core.Bool.{true, false}
 use native.Mathlib.Omega.{arith}
 use Rattle.rules.specs.Calls.{lengthCall}

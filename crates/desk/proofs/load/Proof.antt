@@ -3,7 +3,7 @@ use borrow.Author.Tests.{eq-eqb, ne-eqb, lt-leb, le-leb}
 use Rattle.rules.specs.Refusals.{disorder}
 use Rattle.rules.specs.Desk.{boardFits, need, needs as needsOf, loaded}
 use Rattle.desk.proofs.Sums.{fits, fits-not}
-use mathlib.Core.Path.{_≡_, refl, sym, ap, _∙_}
+use mathlib.Core.Path.{_≡_}
 use mathlib.Core.Bool.{true, false}
 use native.Mathlib.Omega.{arith}
 use Rattle.rules.specs.Calls.{boardCall}

@@ -1,5 +1,4 @@
 -- What was written and what was kept are what the two calls promise.
-use mathlib.Core.Path.{_≡_, refl}
 use borrow.Author.Needs.{needs}
 use Rattle.desk.proofs.move_on.Statement.{statement}
 use Rattle.desk.proofs.move_on.Tie as tie

@@ -1,9 +1,8 @@
 -- Each answer is by the first rule that is given.
-use borrow.Author.Tests.{eq-eqb, ne-eqb, lt-leb, le-leb}
+use borrow.Author.Tests.{lt-leb, le-leb}
 use Rattle.rules.specs.Refusals.{disorder}
 use Rattle.rules.proofs.Refusing.{in-order}
-use Prim.Native.Nat.{_<_}
-use mathlib.Core.Path.{_≡_, refl, sym, ap, _∙_}
+use mathlib.Core.Path.{_≡_}
 use mathlib.Core.Bool.{true, false}
 use native.Mathlib.Omega.{arith}
 use Rattle.rules.specs.Calls.{placeCall}

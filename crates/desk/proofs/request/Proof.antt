@@ -1,9 +1,8 @@
 -- Each answer is by the first rule that is given; the list is what the rule names.
 use Rattle.rules.specs.Calls.{requestCall, entryAt}
-use mathlib.Core.Path.{_≡_, refl, sym, ap, _∙_}
+use mathlib.Core.Path.{_≡_, refl}
 use mathlib.Core.Bool.{true, false}
-use native.Mathlib.Omega.{arith}
-use borrow.Author.Tests.{lt-ltb, le-ltb, eq-eqb, ne-eqb, lt-leb, le-leb}
+use borrow.Author.Tests.{eq-eqb, ne-eqb}
 use Rattle.rules.specs.Refusals.{disorder}
 use Rattle.rules.proofs.Refusing.{in-order}
 use Rattle.rules.specs.Desk.{requestFits}

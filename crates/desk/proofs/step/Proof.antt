@@ -1,10 +1,6 @@
 -- Each answer is by the first rule that is given; a step that moves the clock writes the blocks and keeps what the rule names.
-use Prim.Native.Nat.{_≤_, _<_}
-use lib.ListN.{length}
-use Rattle.rules.specs.Desk.{loaded}
-use Rattle.rules.specs.Refusals.{replyNeed}
 use Rattle.desk.proofs.Keeping.{moves, not-back}
-use mathlib.Core.Path.{_≡_, refl, sym, ap, _∙_}
+use mathlib.Core.Path.{_≡_}
 use mathlib.Core.Bool.{true, false}
 use native.Mathlib.Omega.{arith}
 use borrow.Author.Tests.{lt-ltb, le-ltb, eq-eqb, ne-eqb, lt-leb, le-leb}

@@ -1,5 +1,5 @@
 -- 99 before 4.
-use mathlib.Core.Path.{_≡_, refl, sym, ap, _∙_}
+use mathlib.Core.Path.{_≡_, refl}
 use mathlib.Core.Bool.{true, false}
 use Rattle.rules.specs.Refusals.{disorder}
 use borrow.Author.Needs.{needs}

@@ -9,7 +9,7 @@ use lib.ListN.{length, take, drop, getD}
 use lib.Seq.{length-take-le}
 use Rattle.rules.specs.Calls.{Reply, readerCall}
 use Rattle.rules.specs.Calls.Reply.{refused, accepted}
-use Rattle.rules.specs.Messages.{mark, sameBytes, numberAt, message}
+use Rattle.rules.specs.Messages.{mark, sameBytes, message}
 use Rattle.rules.specs.Refusals.{judged, readerRules}
 use Rattle.rules.specs.declared.Message.{Message}
 use Rattle.message.proofs.Answers.{denied, granted}

@@ -1,6 +1,5 @@
 -- Each answer is by the first condition that fails; where none does, the desk is in order.
-use mathlib.Core.Path.{_≡_, sym, _∙_}
-use mathlib.Core.Bool.{true, false}
+use mathlib.Core.Path.{sym}
 use native.Mathlib.Omega.{arith}
 use Rattle.lists.proofs.Bools.{clash}
 use Rattle.order.proofs.Places.{disordered, loading-order, standing-order, fallen-disorder}

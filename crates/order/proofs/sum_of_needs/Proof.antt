@@ -1,13 +1,12 @@
 -- The invariant: the sum so far and the needs that are left are the sum of needs.
 use lib.Seq.{length-take-le}
-use mathlib.Core.Path.{_≡_, refl, sym, ap, _∙_}
-use Prim.Native.Nat.{ℕ, _+_, _-_, _≤_, _<_}
+use mathlib.Core.Path.{_≡_, sym, ap, _∙_}
+use Prim.Native.Nat.{_+_, _-_, _≤_}
 use native.Mathlib.Omega.{arith}
 use borrow.Author.Needs.{needs}
-use lib.ListN.{length, take, drop, getD, length-map}
+use lib.ListN.{length, take, drop, length-map}
 use Rattle.lists.proofs.Turns.{turn, turned}
-use mathlib.Core.Bool.{true}
-use Rattle.rules.specs.Desk.{need, needs as needsOf, boardFits, noBoard}
+use Rattle.rules.specs.Desk.{need, needs as needsOf, noBoard}
 use Rattle.rules.proofs.Fitting.{needs-small}
 use Rattle.order.proofs.sum_of_needs.Statement.{statement}
 use Rattle.order.proofs.sum_of_needs.Tie as tie

@@ -1,7 +1,7 @@
 -- The first moment above a tick is at most a slide past the limit.
 use native.Mathlib.Omega.{arith}
 use native.Mathlib.Numerals.{add-one}
-use Rattle.rules.specs.Moments.{moment, upto}
+use Rattle.rules.specs.Moments.{moment}
 use Rattle.rules.proofs.MomentLaw.{next-small, upto-small}
 use borrow.Author.Needs.{needs}
 use Rattle.rules.proofs.next_moment.Statement.{statement}

@@ -1,5 +1,5 @@
 -- Each answer is by the tests that led to it.
-use borrow.Author.Tests.{lt-ltb, le-leb, lt-leb}
+use borrow.Author.Tests.{le-leb, lt-leb}
 use Rattle.rules.proofs.within.Statement.{statement}
 use Rattle.rules.proofs.within.Tie as tie
 
