@@ -6,6 +6,7 @@ ghost use Rattle.rules.specs.Moments.{isMoment, moment, upto, inWindow};
 ghost use Rattle.rules.specs.Cells.{cells as cellsOf, held as heldOf};
 ghost use Rattle.rules.specs.Replies.{number as numberOf};
 
+#[repr(C)]
 pub struct Board {
     pub mask: u32,
     pub window: u32,
@@ -14,6 +15,7 @@ pub struct Board {
 }
 
 // A request on the shared list; its tick is the clock when it was accepted.
+#[repr(C)]
 pub struct Entry {
     pub id: u32,
     pub score: u32,
@@ -22,12 +24,14 @@ pub struct Entry {
 }
 
 // The phase is 0 while loading and 1 while open.
+#[repr(C)]
 pub struct Time {
     pub clock: u32,
     pub phase: u32,
 }
 
 // The first `count` boards are loaded; the first `len` entries are on the list.
+#[repr(C)]
 pub struct Desk {
     pub time: Time,
     pub count: usize,
@@ -37,6 +41,7 @@ pub struct Desk {
 }
 
 // A message's kind, its byte 6, and its numbers at bytes 8, 12 and 16.
+#[repr(C)]
 pub struct Message {
     pub kind: u32,
     pub byte: u32,
