@@ -15,11 +15,11 @@ module _ {A B : Type 0} (f : A → B) where
   map-those p [] = refl
   map-those p (x ∷ xs) = map-put (p (f x)) x (those (λ y. p (f y)) xs) ∙ ap (put (p (f x)) (f x)) (map-those p xs)
 
-  pass-along : (x : A) (vs : List (View B)) → pass x (map (along f) vs) ≡ map (along f) (pass (f x) vs)
+  pub pass-along : (x : A) (vs : List (View B)) → pass x (map (along f) vs) ≡ map (along f) (pass (f x) vs)
   pass-along x [] = refl
   pass-along x (v ∷ vs) = ap (λ us. along f (spend (f x) v) ∷ us) (pass-along x vs)
 
-  shows-along : (x : A) (vs : List (View B)) → shows (map (along f) vs) x ≡ shows vs (f x)
+  pub shows-along : (x : A) (vs : List (View B)) → shows (map (along f) vs) x ≡ shows vs (f x)
   shows-along x [] = refl
   shows-along x (v ∷ vs) = ap (λ b. sees v [] (f x) || b) (shows-along x vs)
 

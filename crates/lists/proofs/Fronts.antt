@@ -52,6 +52,12 @@ module _ {A : Type 0} where
       let s : j + 0 ≡ n + (j - n) = omega arith in
       rw (o, s) (ap (λ m. drop m (replicate n z ++ drop n l)) e ∙ drop-past (replicate n z) (drop n l) n (j - n) (length-replicate n z) ∙ drop-drop (j - n) n l))
 
+  -- one element at the first places
+  pub front-same : (z : A) (n : ℕ) (xs : List A) → n ≤ length xs → take n (onFront (λ _. z) n xs) ≡ replicate n z
+  front-same z zero xs h = refl
+  front-same z (suc n) [] h = absurd (not-suc-le-zero h)
+  front-same z (suc n) (x ∷ xs) h = ap (λ (r : List A). z ∷ r) (front-same z n xs (le-of-suc-le-suc h))
+
   module _ (g : A → A) where
     pub front-length : (c : ℕ) (xs : List A) → length (onFront g c xs) ≡ length xs
     front-length zero xs = refl

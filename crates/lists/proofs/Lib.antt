@@ -7,3 +7,4 @@ pub mod Nested
 pub mod Along
 pub mod Turns
 pub mod Fronts
+pub mod Marks

@@ -5,13 +5,13 @@ use mathlib.Core.List.{List, [], _∷_, _++_, List·Memᴰ·head, List·Memᴰ·
 use mathlib.Core.Bool.{false, _||_, or-false, or-assoc}
 use Prim.Native.Nat.{ℕ, zero, suc, _+_, _-_, _*_, _≤_, _<_, min}
 use native.Mathlib.Omega.{arith}
-use native.Mathlib.Nat.{zero-min, min-zero, suc-min-suc, min-le-right}
+use native.Mathlib.Nat.{sub-zero, zero-sub, zero-min, min-zero, suc-min-suc, min-le-right}
 use native.Mathlib.Decide.{ℕ-discrete}
-use borrow.Author.Tests.{ltb-true, lt-ltb, le-ltb}
-use lib.ListN.{length, getD, replicate}
-use lib.Dec.{ltb}
+use borrow.Author.Tests.{ltb-true, ltb-false, lt-ltb, le-ltb}
+use lib.ListN.{length, getD, take, drop, replicate, take-append-drop}
+use lib.Dec.{ltb, leb·suc-suc}
 use Rattle.lists.specs.Views.{View, _∈_, sees, shows, spend, pass, sift, caps}
-use Rattle.lists.specs.Nested.{view, nested, left, onFront, Rise}
+use Rattle.lists.specs.Nested.{view, nested, left, empties, onFront, from, Rise}
 use Rattle.lists.proofs.Bools.{by}
 
 -- All caps of a rising list are at least its first bound.
@@ -29,14 +29,65 @@ rise-lower n zero qs h = rise-less n (n - 1) qs (omega arith) h
 rise-lower n (suc c) [] h = tt
 rise-lower n (suc c) (q ∷ qs) h = (omega arith, rise-lower q c qs (h .1))
 
-pub rise-full : (n k : ℕ) → Rise k (replicate n k)
+rise-full : (n k : ℕ) → Rise k (replicate n k)
 rise-full zero k = tt
 rise-full (suc n) k = (omega arith, rise-full n k)
+
+pub rise-all : (k n : ℕ) → Rise 0 (replicate n k)
+rise-all k n = rise-less k 0 (replicate n k) (omega arith) (rise-full n k)
 
 -- Of the first one and what comes after it, up to the last, the last decides.
 last : (q c : ℕ) (qs : List ℕ) → Rise q qs → c ≤ length qs → (ltb 0 q || left c qs) ≡ left (suc c) (q ∷ qs)
 last q zero qs h k = or-false (ltb 0 q)
 last q (suc c) qs h k = by (ltb 0 q) (λ e. rw e (sym (lt-ltb 0 (getD qs c 0) (omega (arith, ltb-true 0 q e, rise-at q qs c h k))))) (λ e. rw e)
+
+-- The empty views are a front part, and their number is the edge: what is held past it is shown.
+pub left-edge : (n c : ℕ) (qs : List ℕ) → Rise n qs → c ≤ length qs → left c qs ≡ ltb (empties qs) c
+left-edge n zero qs h k = sym (le-ltb (empties qs) 0 (omega arith))
+left-edge n (suc c) [] h k = absurd (omega arith)
+left-edge n (suc c) (q ∷ qs) h k =
+    sym (last q c qs (h .1) (omega arith))
+    ∙ by (ltb 0 q)
+    (λ e. rw e (sym (lt-ltb 0 (suc c) (omega arith))))
+    (λ e. rw e (left-edge q c qs (h .1) (omega arith) ∙ sym (leb·suc-suc (suc (empties qs)) c)))
+
+-- The walk over the views from the edge on: what is empty stays empty, so lowering and the search for the next edge may begin at it.
+pub empties-few : (qs : List ℕ) → empties qs ≤ length qs
+empties-few [] = omega arith
+empties-few (q ∷ qs) = by (ltb 0 q) (λ e. rw e (omega arith)) (λ e. rw e (omega (arith, empties-few qs)))
+
+pub empties-past : (f : ℕ) (qs : List ℕ) → f ≤ empties qs → f + empties (drop f qs) ≡ empties qs
+empties-past zero qs h = omega arith
+empties-past (suc f) [] h = absurd (omega arith)
+empties-past (suc f) (q ∷ qs) h =
+    by (ltb 0 q)
+    (λ e. absurd (omega (arith, rw e at h)))
+    (λ e. rw e (omega (arith, empties-past f qs (omega (arith, rw e at h)))))
+
+pub empties-take : (n : ℕ) (qs : List ℕ) → empties (take n qs) ≤ empties qs
+empties-take zero qs = omega arith
+empties-take (suc n) [] = omega arith
+empties-take (suc n) (q ∷ qs) = by (ltb 0 q) (λ e. rw e (omega arith)) (λ e. rw e (omega (arith, empties-take n qs)))
+
+pub empties-lower : (c : ℕ) (qs : List ℕ) → empties qs ≤ empties (onFront (λ q. q - 1) c qs)
+empties-lower zero qs = omega arith
+empties-lower (suc c) [] = omega arith
+empties-lower (suc c) (q ∷ qs) =
+    by (ltb 0 q)
+    (λ e. rw e (omega arith))
+    (λ e. rw (e, le-ltb 0 (q - 1) (omega (arith, ltb-false 0 q e))) (omega (arith, empties-lower c qs)))
+
+pub lower-past : (f c : ℕ) (qs : List ℕ) → f ≤ empties qs → onFront (λ q. q - 1) c qs ≡ from f (onFront (λ q. q - 1) (c - f)) qs
+lower-past zero c qs h = rw (sub-zero c)
+lower-past (suc f) c [] h = absurd (omega arith)
+lower-past (suc f) zero (q ∷ qs) h = rw (zero-sub (suc f)) (sym (take-append-drop (suc f) (q ∷ qs)))
+lower-past (suc f) (suc c) (q ∷ qs) h =
+    by (ltb 0 q)
+    (λ e. absurd (omega (arith, rw e at h)))
+    (λ e.
+    let z : q - 1 ≡ q = omega (arith, ltb-false 0 q e) in
+    let m : suc c - suc f ≡ c - f = omega arith in
+    rw (z, m) (ap (λ l. q ∷ l) (lower-past f c qs (omega (arith, rw e at h)))))
 
 module _ {A : Type 0} (reach : A → ℕ) where
   nested-pass-at : (i c : ℕ) (qs : List ℕ) (x : A) → reach x - i ≡ c → pass x (nested reach i qs) ≡ nested reach i (onFront (λ q. q - 1) c qs)

@@ -1,6 +1,6 @@
 -- Nested views, numbered from 0, each inside the one before it: x is inside those below `reach x`. Their caps are a list of numbers.
 use mathlib.Core.List.{List, [], _∷_, _++_}
-use mathlib.Core.Bool.{Bool, false}
+use mathlib.Core.Bool.{Bool, false, cond}
 use Prim.Native.Nat.{ℕ, zero, suc, _≤_}
 use lib.Dec.{ltb}
 use lib.ListN.{getD, take, drop}
@@ -19,6 +19,11 @@ module _ {A : Type 0} (reach : A → ℕ) where
 abbrev pub left : ℕ → List ℕ → Bool
 left zero qs = false
 left (suc n) qs = ltb 0 (getD qs n 0)
+
+-- how many at the front have nothing left
+abbrev pub empties : List ℕ → ℕ
+empties [] = 0
+empties (q ∷ qs) = cond (ltb 0 q) 0 (suc (empties qs))
 
 -- g at the first n
 abbrev pub onFront : {A : Type 0} → (A → A) → ℕ → List A → List A

@@ -1,4 +1,5 @@
 pub mod Walkable
-pub mod Counting
-pub mod Sifting
-pub mod Walking
+pub mod Edges
+pub mod Marking
+pub mod Lining
+pub mod Keeping

@@ -1,10 +1,17 @@
 -- A desk that the walk can hold, as a test and as facts.
-use mathlib.Core.Path.{_≡_, sym}
+use mathlib.Core.Path.{_≡_, refl, sym}
+use mathlib.Core.List.{List}
 use mathlib.Core.Bool.{true, false, and-eq-true-iff}
+use Prim.Native.Nat.{ℕ, _+_, _≤_, _<_}
 use borrow.Author.Tests.{leb-true, le-leb}
+use lib.ListN.{length, take, drop, getD}
 use Rattle.lists.proofs.Bools.{untrue}
+use Rattle.lists.proofs.Turns.{turn, turned}
+use Rattle.rules.specs.Desk.{need, needs, noBoard}
+use Rattle.rules.specs.Cells.{cells}
+use Rattle.rules.specs.declared.Board.{Board}
 use Rattle.rules.specs.declared.Desk.{Desk}
-use Rattle.walk.specs.Walk.{walkable, Walkable}
+use Rattle.walk.specs.Walk.{sumCells, walkable, Walkable}
 
 pub facts : (d : Desk) → walkable d ≡ true → Walkable d
 unfolding walkable
@@ -20,3 +27,18 @@ holds d w = sym (rw (le-leb _ _ (w .few), le-leb _ _ (w .cells), le-leb _ _ (w .
 
 pub fails : (d : Desk) → (Walkable d → ⊥) → false ≡ walkable d
 fails d f = sym (untrue (walkable d) (λ e. f (facts d e)))
+
+-- The sums of the boards from number i on
+
+module _ (boards : List Board) (count i : ℕ) (few : count ≤ length boards) where
+  pub cells-rest : i < count → sumCells (drop i (take count boards)) ≡ cells (getD boards i noBoard) + sumCells (drop (i + 1) (take count boards))
+  unfolding sumCells
+  cells-rest h = rw (turn boards count noBoard few i h)
+
+  pub needs-rest : i < count → needs (drop i (take count boards)) ≡ need (getD boards i noBoard) + needs (drop (i + 1) (take count boards))
+  unfolding needs
+  needs-rest h = rw (turn boards count noBoard few i h)
+
+  pub none-rest : count ≤ i → (sumCells (drop i (take count boards)) ≡ 0) × (needs (drop i (take count boards)) ≡ 0)
+  unfolding sumCells needs
+  none-rest h = rw (turned boards count noBoard few i h) (refl, refl)

@@ -1,2 +1,3 @@
 pub mod Walk
-pub mod Counts
+pub mod Line
+pub mod Edges

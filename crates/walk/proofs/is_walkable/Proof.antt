@@ -6,8 +6,7 @@ use lib.ListN.{length, take, drop, length-map}
 use Rattle.rules.specs.Desk.{needs as needsOf}
 use Rattle.rules.specs.declared.Desk.{Desk}
 use Rattle.walk.specs.Walk.{sumCells}
-use Rattle.walk.proofs.Walkable.{holds, fails}
-use Rattle.walk.proofs.Counting.{cells-rest, needs-rest, none-rest}
+use Rattle.walk.proofs.Walkable.{holds, fails, cells-rest, needs-rest, none-rest}
 use Rattle.walk.proofs.is_walkable.Statement.{statement}
 use Rattle.walk.proofs.is_walkable.Tie as tie
 

@@ -2,9 +2,12 @@
 use native.Mathlib.Omega.{arith}
 use borrow.Author.Needs.{needs}
 use borrow.Author.Tests.{lt-ltb, le-ltb, le-leb, lt-leb}
-use Rattle.walk.specs.Counts.{metAt}
+use Rattle.walk.specs.Line.{metAt}
 use Rattle.walk.proofs.meet.Statement.{statement}
 use Rattle.walk.proofs.meet.Tie as tie
+
+cast-place : tie.Need-cast-place
+cast-place c = search needs
 
 add-next : tie.Need-add-next
 add-next c = search needs
@@ -26,4 +29,4 @@ unfolding metAt
 returns-3 c = simp (le-ltb _ _ (c .if1 .left))
 
 pub meet-spec : {M : Type 1} → statement M
-meet-spec = tie.close (tie.spec add-next returns returns-2 returns-3)
+meet-spec = tie.close (tie.spec cast-place add-next returns returns-2 returns-3)

@@ -1,112 +1,228 @@
--- A turn keeps `Walking`, by one law of lists; that what is kept fits comes from the sum of needs.
-use mathlib.Core.Path.{_≡_, refl, sym, _∙_}
+-- Both loops keep their records, `Arriving` and `Keeping`; that what is kept fits comes from the sum of needs.
+use mathlib.Core.Path.{_≡_, refl, sym, ap, _∙_}
+use mathlib.Core.List.{List}
 use mathlib.Core.Logic.{⊎-elim}
-use Prim.Native.Nat.{_+_, _-_, _<_}
+use Prim.Native.Nat.{ℕ, _+_, _-_, _≤_, _<_}
 use native.Mathlib.Omega.{arith}
 use borrow.Author.Needs.{needs}
+use borrow.Author.Tests.{lt-ltb, le-ltb}
 use lib.ListN.{length, take, length-map}
-use Rattle.walk.proofs.Walking.{Next, next, Walking, starts, room, keeps, skips, ends}
+use Rattle.lists.specs.Views.{sift}
+use Rattle.lists.specs.Marks.{marked}
+use Rattle.rules.specs.Cells.{cellViews}
+use Rattle.rules.specs.declared.Entry.{Entry}
+use Rattle.walk.specs.Walk.{arrived}
+use Rattle.walk.specs.Line.{entryAt}
+use Rattle.walk.proofs.Lining.{Next, next, lined, Arriving, begins, place, arrives, all-in, in-line, lined-length, lined-at}
+use Rattle.walk.proofs.Keeping as Kept
+use Rattle.walk.proofs.Keeping.{Keeping, sift-few, all-marked, skips, keeps, kept-all}
 use Rattle.walk.proofs.walk.Statement.{statement}
 use Rattle.walk.proofs.walk.Tie as tie
 
 abbrev Inv-loop : tie.InvT-loop
-Inv-loop clock new waiting phase boards count stood len entries₀ counts₀ at₀ waits₀ kept₀ entries counts at waits kept = Walking clock (take count boards) len (take len stood) new waiting entries₀ entries counts at waits kept
+Inv-loop clock new waiting desk phase boards count len places₀ ticks₀ bits₀ at₀ waits₀ total₀ places ticks bits at waits total = Arriving (desk .entries) len new waiting places ticks bits at waits total
 
 abbrev μ-loop : tie.MeasureT-loop
-μ-loop clock new waiting phase boards count stood len entries₀ counts₀ at₀ waits₀ kept₀ entries counts at waits kept = len + waits - at
+μ-loop clock new waiting desk phase boards count len places₀ ticks₀ bits₀ at₀ waits₀ total₀ places ticks bits at waits total = len + waits - at
 
-full : (c : tie.Start Inv-loop μ-loop) → length (c .args .desk .entries) ≡ 1024
-full c = sym (length-map (c .args .desk .entries) _) ∙ c .good .0 .1 .1 .1 .1 .1 .1 .0 .1 .0 .1
+abbrev Inv-loop2 : tie.InvT-loop2
+Inv-loop2 clock new waiting desk phase boards count len places at waits total marks entries₀ kept₀ i₀ entries kept i = Keeping marks (lined (desk .entries) len new total places) entries₀ entries i kept
 
-abbrev start : tie.At-loop Inv-loop μ-loop → tie.Start Inv-loop μ-loop
-start c = c .before .before .before .before
+abbrev μ-loop2 : tie.MeasureT-loop2
+μ-loop2 clock new waiting desk phase boards count len places at waits total marks entries₀ kept₀ i₀ entries kept i = total - i
 
--- what the walk meets
-met : (c : tie.After-meet Inv-loop μ-loop)
-    → let s = c .before .before .before in
-    let a = start s .args in
-    Next (take (a .desk .len) (a .desk .entries)) (a .new) (s .loop .waits) (s .loop .at) (a .desk .len) (c .meet .result)
-met c =
-    let s = c .before .before .before in
-    let a = start s .args in
-    let v = s .loop .inv in
-    let j = c .before .if1 in
-    rw (c .meet .ensures) (
-    next (a .desk .entries) (a .desk .len) (s .loop .at) (a .new) (j .old)
-    (omega (arith, full (start s), start s .pre .0 .short))
+-- The line
+
+abbrev given : tie.At-loop Inv-loop μ-loop Inv-loop2 μ-loop2 → tie.Start Inv-loop μ-loop Inv-loop2 μ-loop2
+given s = s .before .before
+
+full : (b : tie.Start Inv-loop μ-loop Inv-loop2 μ-loop2) → b .args .t1 .len ≤ length (b .args .t1 .entries)
+full b =
+    let f : length (b .args .t1 .entries) ≡ 1024 = sym (length-map (b .args .t1 .entries) _) ∙ b .good .0 .1 .1 .1 .1 .1 .1 .0 .1 .0 .1 in
+    omega (arith, b .pre .0 .short)
+
+short : (b : tie.Start Inv-loop μ-loop Inv-loop2 μ-loop2) → b .args .t1 .len + b .args .waiting ≤ 1025
+short b = omega (arith, b .pre .0 .short, b .pre .1)
+
+-- what the line takes next
+met : (m : tie.After-meet Inv-loop μ-loop Inv-loop2 μ-loop2) →
+    let s = m .before .before .before in
+    let a = given s .args in
+    Next (a .t1 .entries) (a .t1 .len) (a .new) (s .loop .waits) (s .loop .at) (m .meet .result)
+met m =
+    let s = m .before .before .before in
+    let a = given s .args in
+    let j = m .before .if1 in
+    rw (m .meet .ensures) (
+    next (a .t1 .entries) (a .t1 .len) (s .loop .at) (a .new) (j .old) (given s .pre .0 .short) (full (given s))
     (λ h. ⊎-elim (λ w. w .2) (λ w. absurd (omega (arith, w .0 .left))) (j .came))
     (λ h. ⊎-elim (λ w. absurd (omega (arith, w .0 .taken))) (λ w. w .1) (j .came))
-    (s .loop .waits)
-    (v .few)
-    (v .inside)
-    (c .before .before .loop-test .taken)
+    (s .loop .waits) (s .loop .inv .few) (s .loop .inv .inside) (m .before .before .loop-test .taken)
     )
 
-below : (c : tie.Then2 Inv-loop μ-loop) → c .before .before .before .before .before .before .before .loop .kept < 1024
-below c =
-    let m = c .before .before .before .before in
-    let s = m .before .before .before in
-    room (s .loop .inv) (met m) (c .before .show .ensures) (start s .pre .0 .needs) (c .if2 .taken)
+below : (m : tie.After-meet Inv-loop μ-loop Inv-loop2 μ-loop2) → m .before .before .before .loop .total < 1025
+below m = let s = m .before .before .before in place (s .loop .inv) (short (given s)) (met m)
 
-cleared-requires : tie.Need-cleared-requires Inv-loop μ-loop
-cleared-requires c κs = c .before .before .pre .0 .short
+-- The list
 
-loop-holds : tie.Need-loop-holds Inv-loop μ-loop
-loop-holds c =
-    let b = c .before .before .before in
-    let l : length (c .cleared .result) ≡ 1024 = search needs in
-    starts (b .pre .0 .cells) (b .pre .1) l
+abbrev stopped : tie.At-loop2 Inv-loop μ-loop Inv-loop2 μ-loop2 → tie.At-loop Inv-loop μ-loop Inv-loop2 μ-loop2
+stopped s = s .before .before .before .before .before .before .before .before
 
-add-loop : tie.Need-add-loop Inv-loop μ-loop
-add-loop c = omega (arith, c .loop .inv .inside, c .loop .inv .few, start c .pre .0 .short)
+abbrev es : tie.At-loop2 Inv-loop μ-loop Inv-loop2 μ-loop2 → List Entry
+es s = let a = given (stopped s) .args in lined (a .t1 .entries) (a .t1 .len) (a .new) (stopped s .loop .total) (stopped s .loop .places)
 
-mul-old : tie.Need-mul-old Inv-loop μ-loop
-mul-old c = omega (arith, c .if1 .taken, start (c .before .before) .pre .0 .short)
+abbrev ms : tie.At-loop2 Inv-loop μ-loop Inv-loop2 μ-loop2 → List ℕ
+ms s = s .before .before .before .mark-all .last .1 .1 .1 .1 .1 .1 .0
 
-array-copy-out-old : tie.Need-array-copy-out-old Inv-loop μ-loop
-array-copy-out-old c = omega (arith, c .if1 .taken, start (c .before .before) .pre .0 .short)
+in-places : (s : tie.At-loop2 Inv-loop μ-loop Inv-loop2 μ-loop2) → stopped s .loop .total ≤ length (stopped s .loop .places)
+in-places s = let x = stopped s in omega (arith, x .loop .inv .long .0, short (given x), all-in (x .loop .inv) (full (given x)) (s .before .before .before .before .before .before .before .loop-test .left))
 
-meet-requires : tie.Need-meet-requires Inv-loop μ-loop
-meet-requires c κs = omega (arith, c .before .before .loop .inv .inside, start (c .before .before) .pre .0 .short)
+all-places : (s : tie.At-loop2 Inv-loop μ-loop Inv-loop2 μ-loop2) → length (es s) ≡ stopped s .loop .total
+all-places s = let a = given (stopped s) .args in lined-length (a .t1 .entries) (a .t1 .len) (a .new) (stopped s .loop .total) (stopped s .loop .places) (in-places s)
 
-show-requires : tie.Need-show-requires Inv-loop μ-loop
-show-requires c κs =
-    let s = c .before .before .before .before .before in
-    let p = start s .pre .0 in
-    (s .loop .inv .all-cells, p .few, p .cells)
+in-marks : (s : tie.At-loop2 Inv-loop μ-loop Inv-loop2 μ-loop2) → stopped s .loop .total ≤ length (ms s)
+in-marks s = omega (arith, in-places s, stopped s .loop .inv .long .0, s .before .before .before .mark-all .ensures .0)
 
-mul-entries : tie.Need-mul-entries Inv-loop μ-loop
-mul-entries c = omega (arith, below c)
+-- what has a mark is what sifting keeps
+all : (s : tie.At-loop2 Inv-loop μ-loop Inv-loop2 μ-loop2) →
+    let a = given (stopped s) .args in
+    marked (ms s) (es s) ≡ sift (cellViews (take (a .t1 .count) (a .t1 .boards)) (a .clock)) (arrived (a .new) (a .waiting) (take (a .t1 .len) (a .t1 .entries)))
+all s =
+    let x = stopped s in
+    let a = given x .args in
+    rw (← in-line (x .loop .inv) (full (given x)) (s .before .before .before .before .before .before .before .loop-test .left)) (
+    all-marked (take (a .t1 .count) (a .t1 .boards)) (a .clock) (es s) (x .loop .inv .their-ticks) (x .loop .inv .their-bits) 1025 (omega (arith, all-places s, in-places s, x .loop .inv .long .0)) (s .before .before .before .mark-all .ensures .1)
+    )
 
-array-set-from-entries : tie.Need-array-set-from-entries Inv-loop μ-loop
-array-set-from-entries c = below c
+enough : (s : tie.At-loop2 Inv-loop μ-loop Inv-loop2 μ-loop2) → length (marked (ms s) (es s)) ≤ 1024
+enough s =
+    let a = given (stopped s) .args in
+    rw (all s) (omega (arith, given (stopped s) .pre .0 .needs, sift-few (a .clock) (take (a .t1 .count) (a .t1 .boards)) (arrived (a .new) (a .waiting) (take (a .t1 .len) (a .t1 .entries)))))
 
-add-kept : tie.Need-add-kept Inv-loop μ-loop
-add-kept c = omega (arith, below c)
+room : (t : tie.Then2 Inv-loop μ-loop Inv-loop2 μ-loop2) → t .before .before .loop2 .kept < 1024
+room t =
+    let s = t .before .before in
+    Kept.place (s .loop2 .inv) (omega (arith, all-places s, t .before .loop2-test .taken)) (omega (arith, in-marks s, t .before .loop2-test .taken)) (enough s) (t .if2 .taken)
 
-loop-less : tie.Need-loop-less Inv-loop μ-loop
-loop-less c = met (c .before .before .before .before) .fewer
+loop-holds : tie.Need-loop-holds Inv-loop μ-loop Inv-loop2 μ-loop2
+loop-holds c = begins refl refl refl (c .before .pre .1)
 
-loop-again : tie.Need-loop-again Inv-loop μ-loop
+add-loop : tie.Need-add-loop Inv-loop μ-loop Inv-loop2 μ-loop2
+add-loop c = omega (arith, c .loop .inv .few, given c .pre .0 .short)
+
+mul-old : tie.Need-mul-old Inv-loop μ-loop Inv-loop2 μ-loop2
+mul-old c = omega (arith, c .if1 .taken, given (c .before .before) .pre .0 .short)
+
+element-copy-out-old : tie.Need-element-copy-out-old Inv-loop μ-loop Inv-loop2 μ-loop2
+element-copy-out-old c = omega (arith, c .if1 .taken, given (c .before .before) .pre .0 .short)
+
+meet-requires : tie.Need-meet-requires Inv-loop μ-loop Inv-loop2 μ-loop2
+meet-requires c κs = omega (arith, c .before .before .loop .inv .inside, given (c .before .before) .pre .0 .short)
+
+mul-places : tie.Need-mul-places Inv-loop μ-loop Inv-loop2 μ-loop2
+mul-places c = omega (arith, below c)
+
+array-write-places : tie.Need-array-write-places Inv-loop μ-loop Inv-loop2 μ-loop2
+array-write-places c = omega (arith, below c)
+
+mul-ticks : tie.Need-mul-ticks Inv-loop μ-loop Inv-loop2 μ-loop2
+mul-ticks c = omega (arith, below c)
+
+array-write-ticks : tie.Need-array-write-ticks Inv-loop μ-loop Inv-loop2 μ-loop2
+array-write-ticks c = omega (arith, below c)
+
+bit-requires : tie.Need-bit-requires Inv-loop μ-loop Inv-loop2 μ-loop2
+bit-requires c κs = search needs
+
+array-write-bits : tie.Need-array-write-bits Inv-loop μ-loop Inv-loop2 μ-loop2
+array-write-bits c = omega (arith, below (c .before))
+
+add-total : tie.Need-add-total Inv-loop μ-loop Inv-loop2 μ-loop2
+add-total c = omega (arith, below (c .before))
+
+loop-less : tie.Need-loop-less Inv-loop μ-loop Inv-loop2 μ-loop2
+loop-less c = omega (arith, met (c .before) .one)
+
+loop-again : tie.Need-loop-again Inv-loop μ-loop Inv-loop2 μ-loop2
 loop-again c =
-    let m = c .before .before .before .before in
+    let m = c .before in
     let s = m .before .before .before in
-    keeps (s .loop .inv) (met m) (c .before .show .ensures) (start s .pre .0 .needs) (c .if2 .taken)
+    arrives (s .loop .inv) (short (given s)) (met m) (c .bit .ensures)
 
-loop-less-2 : tie.Need-loop-less-2 Inv-loop μ-loop
-loop-less-2 c = met (c .before .before .before .before) .fewer
+mark-all-requires : tie.Need-mark-all-requires Inv-loop μ-loop Inv-loop2 μ-loop2
+mark-all-requires c κs =
+    let s = c .before .before .before .before in
+    let p = given s .pre .0 in
+    let l = s .loop .inv .long in
+    (l .1, l .2, refl, omega (arith, short (given s), all-in (s .loop .inv) (full (given s)) (c .before .before .before .loop-test .left)), p .few, p .cells)
 
-loop-again-2 : tie.Need-loop-again-2 Inv-loop μ-loop
-loop-again-2 c =
-    let m = c .before .before .before .before in
-    skips (m .before .before .before .loop .inv) (met m) (c .before .show .ensures) (c .if2 .left)
+cleared-requires : tie.Need-cleared-requires Inv-loop μ-loop Inv-loop2 μ-loop2
+cleared-requires c κs = c .before .before .before .before .before .before .before .before .pre .0 .short
 
-returns : tie.Need-returns Inv-loop μ-loop
+loop2-holds : tie.Need-loop2-holds Inv-loop μ-loop Inv-loop2 μ-loop2
+loop2-holds c = Kept.begins (search needs)
+
+add-i : tie.Need-add-i Inv-loop μ-loop Inv-loop2 μ-loop2
+add-i c = omega (arith, in-marks (c .before), c .before .before .before .before .mark-all .ensures .0)
+
+array-read-if2 : tie.Need-array-read-if2 Inv-loop μ-loop Inv-loop2 μ-loop2
+array-read-if2 c = omega (arith, in-marks (c .before), c .loop2-test .taken, c .before .before .before .before .mark-all .ensures .0)
+
+mul-wide : tie.Need-mul-wide Inv-loop μ-loop Inv-loop2 μ-loop2
+mul-wide c = let s = c .before .before in omega (arith, in-places s, stopped s .loop .inv .long .0, c .before .loop2-test .taken)
+
+array-read-wide : tie.Need-array-read-wide Inv-loop μ-loop Inv-loop2 μ-loop2
+array-read-wide c = let s = c .before .before in omega (arith, in-places s, stopped s .loop .inv .long .0, c .before .loop2-test .taken)
+
+wide-requires : tie.Need-wide-requires Inv-loop μ-loop Inv-loop2 μ-loop2
+wide-requires c κs = search needs
+
+mul-e : tie.Need-mul-e Inv-loop μ-loop Inv-loop2 μ-loop2
+mul-e c = omega (arith, c .if3 .taken, given (stopped (c .before .before .before .before)) .pre .0 .short)
+
+element-copy-out-e : tie.Need-element-copy-out-e Inv-loop μ-loop Inv-loop2 μ-loop2
+element-copy-out-e c = omega (arith, c .if3 .taken, given (stopped (c .before .before .before .before)) .pre .0 .short)
+
+mul-entries : tie.Need-mul-entries Inv-loop μ-loop Inv-loop2 μ-loop2
+mul-entries c = omega (arith, room (c .before .before))
+
+array-set-from-entries : tie.Need-array-set-from-entries Inv-loop μ-loop Inv-loop2 μ-loop2
+array-set-from-entries c = room (c .before .before)
+
+add-kept : tie.Need-add-kept Inv-loop μ-loop Inv-loop2 μ-loop2
+add-kept c = omega (arith, room (c .before .before))
+
+loop2-less : tie.Need-loop2-less Inv-loop μ-loop Inv-loop2 μ-loop2
+loop2-less c = omega arith
+
+loop2-again : tie.Need-loop2-again Inv-loop μ-loop Inv-loop2 μ-loop2
+loop2-again c =
+    let w = c .before in
+    let t = w .before in
+    let s = t .before .before in
+    let a = given (stopped s) .args in
+    let l = t .before .loop2-test .taken in
+    let e : c .if3 .e ≡ entryAt (a .t1 .entries) (a .t1 .len) (a .new) (w .wide .result) =
+    ⊎-elim (λ h. rw (lt-ltb _ _ (h .0 .taken)) (h .2)) (λ h. rw (le-ltb _ _ (h .0 .left)) (h .1)) (c .if3 .came) in
+    keeps (s .loop2 .inv) (omega (arith, all-places s, l)) (omega (arith, in-marks s, l)) (enough s) (t .if2 .taken)
+    (e ∙ ap (entryAt (a .t1 .entries) (a .t1 .len) (a .new)) (w .wide .ensures)
+    ∙ sym (lined-at (a .t1 .entries) (a .t1 .len) (a .new) (stopped s .loop .total) (stopped s .loop .places) (s .loop2 .i) l (in-places s)))
+
+loop2-less-2 : tie.Need-loop2-less-2 Inv-loop μ-loop Inv-loop2 μ-loop2
+loop2-less-2 c = omega arith
+
+loop2-again-2 : tie.Need-loop2-again-2 Inv-loop μ-loop Inv-loop2 μ-loop2
+loop2-again-2 c =
+    let s = c .before .before in
+    let l = c .before .loop2-test .taken in
+    skips (s .loop2 .inv) (omega (arith, all-places s, l)) (omega (arith, in-marks s, l)) (c .if2 .left)
+
+returns : tie.Need-returns Inv-loop μ-loop Inv-loop2 μ-loop2
 returns c =
     let s = c .before in
-    let b = start s in
-    let r = ends (s .loop .inv) (b .args .desk .entries) refl (omega (arith, full b, b .pre .0 .short)) (s .before .cleared .ensures) (c .loop-test .left) in
-    rw (← r .0, ← r .1)
+    let a = given (stopped s) .args in
+    let r = kept-all (s .loop2 .inv) (a .t1 .len) (a .t1 .entries) (s .before .cleared .ensures) (omega (arith, all-places s, c .loop2-test .left)) in
+    rw (← all s, ← r .0, ← r .1)
 
 pub walk-spec : {M : Type 1} → statement M
 walk-spec =
@@ -114,18 +230,37 @@ walk-spec =
     (tie.spec
     Inv-loop
     μ-loop
-    cleared-requires
+    Inv-loop2
+    μ-loop2
     loop-holds
     add-loop
     mul-old
-    array-copy-out-old
+    element-copy-out-old
     meet-requires
-    show-requires
+    mul-places
+    array-write-places
+    mul-ticks
+    array-write-ticks
+    bit-requires
+    array-write-bits
+    add-total
+    loop-less
+    loop-again
+    mark-all-requires
+    cleared-requires
+    loop2-holds
+    add-i
+    array-read-if2
+    mul-wide
+    array-read-wide
+    wide-requires
+    mul-e
+    element-copy-out-e
     mul-entries
     array-set-from-entries
     add-kept
-    loop-less
-    loop-again
-    loop-less-2
-    loop-again-2
+    loop2-less
+    loop2-again
+    loop2-less-2
+    loop2-again-2
     returns)
