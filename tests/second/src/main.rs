@@ -1,25 +1,13 @@
-//! A second desk, written from document 01 alone and by the plainest means, with
-//! a generator of message files and a comparison with another console program.
-
-mod board;
-mod check;
-mod compare;
-mod console;
-mod desk;
-mod generate;
-mod limits;
-mod message;
-mod refusal;
-mod request;
-mod rules;
+//! The commands of the second desk.
 
 use std::io::{self, BufWriter, Read, Write};
 use std::path::PathBuf;
 use std::process::ExitCode;
 
-use compare::Comparison;
-use generate::Kind;
-use rules::{Rules, FAULTS};
+use second::compare::Comparison;
+use second::generate::{self, Kind};
+use second::rules::{Rules, FAULTS};
+use second::{check, console};
 
 const USAGE: &str = "\
 usage: second desk [--fault NAME] < messages

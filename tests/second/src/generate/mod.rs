@@ -1,12 +1,12 @@
 //! Message files drawn from a kind and a seed.
 
-mod boards;
+pub mod boards;
 mod course;
 mod damage;
 mod edge;
 mod lesson;
 mod long;
-mod random;
+pub mod random;
 mod sheet;
 
 use random::Random;
