@@ -1,6 +1,6 @@
 -- Front parts: `onFront` changes a front part and nothing behind it; `from` changes what stands from a place on.
 use mathlib.Core.Path.{_≡_, refl, sym, ap, _∙_}
-use mathlib.Core.List.{List, [], _∷_, _++_, map, append-assoc}
+use mathlib.Core.List.{List, [], _∷_, _++_}
 use Prim.Native.Nat.{ℕ, zero, suc, _+_, _-_, _≤_, _<_, min}
 use native.Mathlib.Omega.{arith}
 use native.Mathlib.Numerals.{add-one}
@@ -8,7 +8,7 @@ use native.Mathlib.Nat.{le-of-suc-le-suc, not-suc-le-zero, zero-min, min-zero, s
 use borrow.Author.Tests.{leb-true, leb-false}
 use lib.Dec.{leb}
 use lib.ListN.{length, take, drop, getD, set, replicate, take-append-drop, length-replicate, replicate-append-replicate}
-use lib.Seq.{drop-cons, take-suc-set, drop-set-lt, append-snoc, take-append-add, drop-append-add, drop-append-le, take-at, drop-at, drop-drop}
+use lib.Seq.{drop-cons, take-suc-set, drop-set-lt, append-snoc, drop-append-add, drop-append-le, take-at, drop-at, drop-drop}
 use Rattle.lists.specs.Nested.{onFront, from}
 use Rattle.lists.proofs.Bools.{by}
 
@@ -16,9 +16,6 @@ module _ {A : Type 0} where
   -- behind the seam of p and q
   pub drop-past : (p q : List A) (a n : ℕ) → length p ≡ a → drop (a + n) (p ++ q) ≡ drop n q
   drop-past p q a n e = rw (← e) (drop-append-add p q n)
-
-  pub from-past : (f : List A → List A) (p q : List A) (a n : ℕ) → length p ≡ a → from (a + n) f (p ++ q) ≡ p ++ from n f q
-  from-past f p q a n e = rw (← e, take-append-add, drop-append-add, append-assoc)
 
   -- so many of one element, cut in two
   pub split-same : (z : A) (c m : ℕ) → c ≤ m → (take c (replicate m z) ≡ replicate c z) × (drop c (replicate m z) ≡ replicate (m - c) z)
@@ -59,11 +56,6 @@ module _ {A : Type 0} where
   front-same z (suc n) (x ∷ xs) h = ap (λ (r : List A). z ∷ r) (front-same z n xs (le-of-suc-le-suc h))
 
   module _ (g : A → A) where
-    pub front-length : (c : ℕ) (xs : List A) → length (onFront g c xs) ≡ length xs
-    front-length zero xs = refl
-    front-length (suc c) [] = refl
-    front-length (suc c) (x ∷ xs) = ap suc (front-length c xs)
-
     front-nil : (c : ℕ) → onFront g c [] ≡ []
     front-nil zero = refl
     front-nil (suc c) = refl
@@ -73,12 +65,6 @@ module _ {A : Type 0} where
     front-take (suc n) c [] = rw (front-nil c)
     front-take (suc n) zero (x ∷ xs) = refl
     front-take (suc n) (suc c) (x ∷ xs) = ap (λ (r : List A). g x ∷ r) (front-take n c xs)
-
-    pub front-drop : (n c : ℕ) (xs : List A) → c ≤ n → drop n (onFront g c xs) ≡ drop n xs
-    front-drop n zero xs h = refl
-    front-drop n (suc c) [] h = refl
-    front-drop zero (suc c) (x ∷ xs) h = absurd (not-suc-le-zero h)
-    front-drop (suc n) (suc c) (x ∷ xs) h = front-drop n c xs (le-of-suc-le-suc h)
 
     -- only those that are there count
     pub front-min : (c : ℕ) (xs : List A) → onFront g (min c (length xs)) xs ≡ onFront g c xs
@@ -97,9 +83,3 @@ module _ {A : Type 0} where
     front-end xs i end h f =
         let m : end - i ≡ 0 = omega arith in
         rw (m, take-append-drop) at f
-
--- f of what g makes is h of what f makes
-pub map-front : {A B : Type 0} (f : A → B) (g : A → A) (h : B → B) → ((x : A) → f (g x) ≡ h (f x)) → (c : ℕ) (xs : List A) → map f (onFront g c xs) ≡ onFront h c (map f xs)
-map-front f g h e zero xs = refl
-map-front f g h e (suc c) [] = refl
-map-front f g h e (suc c) (x ∷ xs) = rw (e x, map-front f g h e c xs)

@@ -2,7 +2,7 @@
 -- so they are nested, and one cell for each holds what is left of its k.
 use mathlib.Core.List.{List, [], _∷_, _++_}
 use mathlib.Core.Bool.{cond}
-use Prim.Native.Nat.{ℕ, _+_, _-_, min}
+use Prim.Native.Nat.{ℕ, _+_}
 use lib.ListN.{replicate}
 use Rattle.lists.specs.Views.{View}
 use Rattle.lists.specs.Nested.{nested}
@@ -17,10 +17,6 @@ reach b e = cond (names b (e .topic)) (upto b (e .tick + b .window)) 0
 
 unfoldable pub cells : Board → ℕ
 cells b = roundedUp (b .window) (b .slide)
-
--- the entry lies in the first so many of the board's cells
-unfoldable pub held : ℕ → Board → Entry → ℕ
-held n b e = min (reach b e - upto b n) (cells b)
 
 unfoldable pub cellViews : List Board → ℕ → List (View Entry)
 cellViews [] n = []

@@ -3,7 +3,7 @@ ghost use mathlib.Core.Path.{_≡_};
 ghost use Prim.Native.Nat.{_-_, min};
 ghost use Rattle.rules.specs.Desk.{names as namesOf, need as needOf, within as withinOf, boardFits, requestFits, clockFits};
 ghost use Rattle.rules.specs.Moments.{isMoment, moment, upto, inWindow};
-ghost use Rattle.rules.specs.Cells.{cells as cellsOf, held as heldOf};
+ghost use Rattle.rules.specs.Cells.{cells as cellsOf};
 ghost use Rattle.rules.specs.Replies.{number as numberOf};
 
 #[repr(C)]
@@ -174,6 +174,7 @@ pub fn need(board: Board) -> usize
     board.k as usize * cells(board)
 }
 
+// The lesser of two.
 pub fn least(a: usize, b: usize) -> usize
     ensures { λ r. ⌜ r ≡ min a b ⌝ }
 {
@@ -233,18 +234,6 @@ pub fn in_window(board: Board, at: u32, e: Entry) -> bool
         return false;
     }
     false
-}
-
-// How many of the board's cells hold the entry: the first so many.
-pub fn held(board: Board, clock: u32, e: Entry) -> usize
-    ensures { λ r. ⌜ r ≡ heldOf clock board e ⌝ }
-{
-    if names(board, e.topic) {
-        let last = moments_upto(board, e.tick as usize + board.window as usize);
-        let views = less(last, moments_upto(board, clock as usize));
-        return least(views, cells(board));
-    }
-    0
 }
 
 // Document 01's number of a refusal.
