@@ -1,5 +1,6 @@
 -- The line: what it takes next is the head of what is left of the list and the new entry. Its columns are all that views see of it.
-use mathlib.Core.Path.{_≡_, refl, sym, ap, _∙_}
+use mathlib.Core.Path.{_≡_, refl, sym, ap, subst, _∙_}
+use mathlib.Core.Logic.{_⊎_, inl, inr}
 use mathlib.Core.List.{List, [], _∷_, _++_, map, map-append, append-nil}
 use mathlib.Core.Bool.{true}
 use Prim.Native.Nat.{ℕ, zero, suc, _+_, _-_, _*_, _/_, _%_, _^_, _≤_, _<_}
@@ -9,13 +10,14 @@ use native.Mathlib.Nat.{add-comm, zero-mul, two-pow-succ, pow-le-pow-right, mod-
 use borrow.Author.Tests.{ltb-true, ltb-false, lt-ltb, le-ltb, leb-true, leb-false, le-leb}
 use lib.Bits.{bitAnd, and-high, and-zero-r}
 use lib.Dec.{eqb, ltb, leb}
-use lib.ListN.{length, take, drop, getD, set, length-map, length-set}
-use lib.Seq.{length-take-le, take-suc-set, append-snoc}
+use lib.ListN.{length, take, drop, getD, set, replicate, length-map, length-set, take-append-drop, replicate-append-replicate}
+use lib.Seq.{length-take-le, take-take, take-suc-set, drop-set-lt, append-snoc}
 use Rattle.lists.specs.Views.{along}
 use Rattle.lists.specs.Nested.{view, nested}
 use Rattle.lists.specs.Marks.{noted}
 use Rattle.lists.proofs.Bools.{by}
 use Rattle.lists.proofs.Marks.{noted-along}
+use Rattle.lists.proofs.Fronts.{split-same}
 use Rattle.lists.proofs.Turns.{turn, turned}
 use Rattle.rules.specs.Desk.{names, noEntry}
 use Rattle.rules.specs.Cells.{reach, cellViews}
@@ -117,6 +119,7 @@ pub record Next (stood : List Entry) (len : ℕ) (new : Entry) (waiting at : ℕ
   pub stands : entryAt stood len new (m .place) ≡ m .entry
   pub inside : m .at ≤ len
   pub few : m .waiting ≤ 1
+  pub step : m .at ≤ at + 1
   pub one : suc (len + m .waiting - m .at) ≡ len + waiting - at
 
 -- At the list's end the new entry is met with itself.
@@ -133,18 +136,18 @@ module _ (stood : List Entry) (len at : ℕ) (new old : Entry) (short : len ≤ 
 
   pub next : (waiting : ℕ) → waiting ≤ 1 → at ≤ len → at < len + waiting → Next stood len new waiting at (metAt new waiting old at)
   unfolding metAt
-  next zero w a h = record { head = listed-next (omega arith); stands = old-stands (omega arith); inside = omega arith; few = omega arith; one = omega arith }
+  next zero w a h = record { head = listed-next (omega arith); stands = old-stands (omega arith); inside = omega arith; few = omega arith; step = omega arith; one = omega arith }
   next (suc zero) w a h =
       by (ltb at len)
       (λ t.
       let g = ltb-true at len t in
       by (leb (old .score) (new .score))
-      (λ s. rw s (record { head = rw (listed-next g, le-ltb _ _ (leb-true _ _ s)); stands = new-stands; inside = a; few = omega arith; one = omega arith }))
-      (λ s. rw s (record { head = rw (listed-next g, lt-ltb _ _ (leb-false _ _ s)); stands = old-stands g; inside = omega arith; few = omega arith; one = omega arith })))
+      (λ s. rw s (record { head = rw (listed-next g, le-ltb _ _ (leb-true _ _ s)); stands = new-stands; inside = a; few = omega arith; step = omega arith; one = omega arith }))
+      (λ s. rw s (record { head = rw (listed-next g, lt-ltb _ _ (leb-false _ _ s)); stands = old-stands g; inside = omega arith; few = omega arith; step = omega arith; one = omega arith })))
       (λ t.
       let g = ltb-false at len t in
       let s : leb (old .score) (new .score) ≡ true = rw (at-end g) (le-leb (new .score) (new .score) (omega arith)) in
-      rw s (record { head = rw (turned stood len noEntry k at g); stands = new-stands; inside = a; few = omega arith; one = omega arith }))
+      rw s (record { head = rw (turned stood len noEntry k at g); stands = new-stands; inside = a; few = omega arith; step = omega arith; one = omega arith }))
   next (suc (suc n)) w a h = absurd (omega arith)
 
 -- The line on its way: what stands in it, and what is left of the list and the new entry, is the whole.
@@ -210,3 +213,30 @@ lined-at stood len new zero places i h k = absurd (omega arith)
 lined-at stood len new (suc n) [] i h k = absurd (omega arith)
 lined-at stood len new (suc n) (p ∷ ps) zero h k = refl
 lined-at stood len new (suc n) (p ∷ ps) (suc i) h k = lined-at stood len new n ps i (omega arith) (omega arith)
+
+-- Places that were read are cleared on the way: those before `at` are zeros, those from the old length on stand as they stood.
+pub record Clearing (stood : List Entry) (len : ℕ) (entries : List Entry) (at : ℕ) : Type 0 where
+  pub all-places : length entries ≡ 1024
+  pub zeros : take at entries ≡ replicate at noEntry
+  pub behind : drop len entries ≡ drop len stood
+
+module _ {stood : List Entry} {len : ℕ} where
+  not-past : {entries : List Entry} {at : ℕ} → Clearing stood len entries at → (n : ℕ) → n ≤ at → Clearing stood len entries n
+  not-past {entries} {at} c n h = record { all-places = c .all-places; zeros = sym (take-take n at entries h) ∙ ap (take n) (c .zeros) ∙ split-same noEntry n at h .0; behind = c .behind }
+
+  module _ {entries : List Entry} {at : ℕ} (c : Clearing stood len entries at) where
+    clears : at < len → len ≤ 1024 → Clearing stood len (set entries at noEntry) (at + 1)
+    clears h k = record {
+      all-places = simp length-set (c .all-places);
+      zeros = ap (λ n. take n (set entries at noEntry)) (add-one at) ∙ take-suc-set entries at noEntry (omega (arith, c .all-places)) ∙ ap (λ l. l ++ (noEntry ∷ [])) (c .zeros) ∙ replicate-append-replicate at 1 noEntry;
+      behind = drop-set-lt len entries at noEntry h ∙ c .behind;
+    }
+
+    -- a turn: the place that was read is cleared, and the list goes on there or at the next
+    pub cleared-on : {new : Entry} {waiting : ℕ} {m : Met} → Next stood len new waiting at m → len ≤ 1024 → {after : List Entry}
+        → ((at < len) × (after ≡ set entries at noEntry)) ⊎ ((len ≤ at) × (after ≡ entries)) → Clearing stood len after (m .at)
+    cleared-on {m = m} n k (inl (h, e)) = subst (λ l. Clearing stood len l (m .at)) (sym e) (not-past (clears h k) (m .at) (n .step))
+    cleared-on {m = m} n k (inr (h, e)) = subst (λ l. Clearing stood len l (m .at)) (sym e) (not-past c (m .at) (omega (arith, n .inside)))
+
+    pub cleared : at ≡ len → entries ≡ replicate len noEntry ++ drop len stood
+    cleared e = sym (take-append-drop at entries) ∙ rw (c .zeros, e, c .behind)

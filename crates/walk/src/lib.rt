@@ -5,14 +5,13 @@ use rules::Entry;
 use rules::Time;
 ghost use mathlib.Core.Path.{_≡_};
 ghost use mathlib.Core.Bool.{cond, _&&_};
-ghost use mathlib.Core.List.{_++_};
 ghost use Prim.Native.Nat.{_+_, _-_, _≤_, _<_};
 ghost use lib.Bits.{bitAnd};
 ghost use lib.Dec.{ltb, leb};
 ghost use lib.ListN.{length, take, drop, replicate};
 ghost use Rattle.lists.specs.Nested.{empties, onFront, from};
 ghost use Rattle.lists.specs.Marks.{noted};
-ghost use Rattle.rules.specs.Desk.{noEntry, names};
+ghost use Rattle.rules.specs.Desk.{names};
 ghost use Rattle.rules.specs.Moments.{moment as momentOf, upto};
 ghost use Rattle.rules.specs.Cells.{cells};
 ghost use Rattle.walk.specs.Walk.{sumCells, walkable, Walkable, walkedTo, thinnedTo, withEntry};
@@ -225,26 +224,6 @@ fn mark_all(
     }
 }
 
-// Zeros at the first places.
-fn cleared(entries: [Entry; 1024], len: usize) -> [Entry; 1024]
-    requires { ⌜ len ≤ 1024 ⌝ }
-    ensures { λ r. ⌜ r ≡ replicate len noEntry ++ drop len entries ⌝ }
-{
-    let zero = Entry {
-        id: 0,
-        score: 0,
-        tick: 0,
-        topic: 0,
-    };
-    let mut r = entries;
-    let mut i: usize = 0;
-    while i < len {
-        r[i] = zero;
-        i += 1;
-    }
-    r
-}
-
 // A new entry stands before the first whose score is not above its own.
 fn meet(new: Entry, waiting: usize, old: Entry, at: usize) -> Met
     requires { ⌜ at ≤ 1024 ⌝ }
@@ -286,6 +265,13 @@ fn walk(desk: Desk, clock: u32, new: Entry, waiting: usize) -> Desk
     let boards = desk.boards;
     let count = desk.count;
     let len = desk.len;
+    let none = Entry {
+        id: 0,
+        score: 0,
+        tick: 0,
+        topic: 0,
+    };
+    let mut entries = desk.entries;
     let mut places = [0u16; 1025];
     let mut ticks = [0u32; 1025];
     let mut bits = [0u8; 1025];
@@ -293,10 +279,11 @@ fn walk(desk: Desk, clock: u32, new: Entry, waiting: usize) -> Desk
     let mut waits = waiting;
     let mut total: usize = 0;
     while at < len + waits {
-        // Past the last entry of the list the new one is next: it is met with itself.
+        // Past the last entry of the list the new one is next: it is met with itself. A place that was read is cleared.
         let mut old = new;
         if at < len {
             old = desk.entries[at];
+            entries[at] = none;
         }
         let met = meet(new, waits, old, at);
         at = met.at;
@@ -308,8 +295,6 @@ fn walk(desk: Desk, clock: u32, new: Entry, waiting: usize) -> Desk
     }
     let mut marks = [0u8; 1025];
     mark_all(boards, count, clock, &ticks, &bits, total, &mut marks);
-    let stood = desk.entries;
-    let mut entries = cleared(stood, len);
     let mut kept: usize = 0;
     let mut i: usize = 0;
     while i < total {

@@ -1,7 +1,7 @@
 -- Both loops keep their records, `Arriving` and `Keeping`; that what is kept fits comes from the sum of needs.
 use mathlib.Core.Path.{_≡_, refl, sym, ap, _∙_}
 use mathlib.Core.List.{List}
-use mathlib.Core.Logic.{⊎-elim}
+use mathlib.Core.Logic.{inl, inr, ⊎-elim}
 use Prim.Native.Nat.{ℕ, _+_, _-_, _≤_, _<_}
 use native.Mathlib.Omega.{arith}
 use borrow.Author.Needs.{needs}
@@ -13,33 +13,35 @@ use Rattle.rules.specs.Cells.{cellViews}
 use Rattle.rules.specs.declared.Entry.{Entry}
 use Rattle.walk.specs.Walk.{arrived}
 use Rattle.walk.specs.Line.{entryAt}
-use Rattle.walk.proofs.Lining.{Next, next, lined, Arriving, begins, place, arrives, all-in, in-line, lined-length, lined-at}
+use Rattle.walk.proofs.Lining.{Next, next, lined, Arriving, Clearing, cleared-on, cleared, begins, place, arrives, all-in, in-line, lined-length, lined-at}
 use Rattle.walk.proofs.Keeping as Kept
 use Rattle.walk.proofs.Keeping.{Keeping, sift-few, all-marked, skips, keeps, kept-all}
 use Rattle.walk.proofs.walk.Statement.{statement}
 use Rattle.walk.proofs.walk.Tie as tie
 
 abbrev Inv-loop : tie.InvT-loop
-Inv-loop clock new waiting desk phase boards count len places₀ ticks₀ bits₀ at₀ waits₀ total₀ places ticks bits at waits total = Arriving (desk .entries) len new waiting places ticks bits at waits total
+Inv-loop clock new waiting desk phase boards count len none entries₀ places₀ ticks₀ bits₀ at₀ waits₀ total₀ entries places ticks bits at waits total =
+    Arriving (desk .entries) len new waiting places ticks bits at waits total × Clearing (desk .entries) len entries at
 
 abbrev μ-loop : tie.MeasureT-loop
-μ-loop clock new waiting desk phase boards count len places₀ ticks₀ bits₀ at₀ waits₀ total₀ places ticks bits at waits total = len + waits - at
+μ-loop clock new waiting desk phase boards count len none entries₀ places₀ ticks₀ bits₀ at₀ waits₀ total₀ entries places ticks bits at waits total = len + waits - at
 
 abbrev Inv-loop2 : tie.InvT-loop2
-Inv-loop2 clock new waiting desk phase boards count len places at waits total marks entries₀ kept₀ i₀ entries kept i = Keeping marks (lined (desk .entries) len new total places) entries₀ entries i kept
+Inv-loop2 clock new waiting desk phase boards count len entries₀ places at waits total marks kept₀ i₀ entries kept i = Keeping marks (lined (desk .entries) len new total places) entries₀ entries i kept
 
 abbrev μ-loop2 : tie.MeasureT-loop2
-μ-loop2 clock new waiting desk phase boards count len places at waits total marks entries₀ kept₀ i₀ entries kept i = total - i
+μ-loop2 clock new waiting desk phase boards count len entries₀ places at waits total marks kept₀ i₀ entries kept i = total - i
 
 -- The line
 
 abbrev given : tie.At-loop Inv-loop μ-loop Inv-loop2 μ-loop2 → tie.Start Inv-loop μ-loop Inv-loop2 μ-loop2
-given s = s .before .before
+given s = s .before .before .before
+
+all-entries : (b : tie.Start Inv-loop μ-loop Inv-loop2 μ-loop2) → length (b .args .t1 .entries) ≡ 1024
+all-entries b = sym (length-map (b .args .t1 .entries) _) ∙ b .good .0 .1 .1 .1 .1 .1 .1 .0 .1 .0 .1
 
 full : (b : tie.Start Inv-loop μ-loop Inv-loop2 μ-loop2) → b .args .t1 .len ≤ length (b .args .t1 .entries)
-full b =
-    let f : length (b .args .t1 .entries) ≡ 1024 = sym (length-map (b .args .t1 .entries) _) ∙ b .good .0 .1 .1 .1 .1 .1 .1 .0 .1 .0 .1 in
-    omega (arith, b .pre .0 .short)
+full b = omega (arith, all-entries b, b .pre .0 .short)
 
 short : (b : tie.Start Inv-loop μ-loop Inv-loop2 μ-loop2) → b .args .t1 .len + b .args .waiting ≤ 1025
 short b = omega (arith, b .pre .0 .short, b .pre .1)
@@ -55,33 +57,36 @@ met m =
     let j = m .before .if1 in
     rw (m .meet .ensures) (
     next (a .t1 .entries) (a .t1 .len) (s .loop .at) (a .new) (j .old) (given s .pre .0 .short) (full (given s))
-    (λ h. ⊎-elim (λ w. w .2) (λ w. absurd (omega (arith, w .0 .left))) (j .came))
-    (λ h. ⊎-elim (λ w. absurd (omega (arith, w .0 .taken))) (λ w. w .1) (j .came))
-    (s .loop .waits) (s .loop .inv .few) (s .loop .inv .inside) (m .before .before .loop-test .taken)
+    (λ h. ⊎-elim (λ w. w .3) (λ w. absurd (omega (arith, w .0 .left))) (j .came))
+    (λ h. ⊎-elim (λ w. absurd (omega (arith, w .0 .taken))) (λ w. w .2) (j .came))
+    (s .loop .waits) (s .loop .inv .0 .few) (s .loop .inv .0 .inside) (m .before .before .loop-test .taken)
     )
 
 below : (m : tie.After-meet Inv-loop μ-loop Inv-loop2 μ-loop2) → m .before .before .before .loop .total < 1025
-below m = let s = m .before .before .before in place (s .loop .inv) (short (given s)) (met m)
+below m = let s = m .before .before .before in place (s .loop .inv .0) (short (given s)) (met m)
 
 -- The list
 
 abbrev stopped : tie.At-loop2 Inv-loop μ-loop Inv-loop2 μ-loop2 → tie.At-loop Inv-loop μ-loop Inv-loop2 μ-loop2
-stopped s = s .before .before .before .before .before .before .before .before
+stopped s = s .before .before .before .before .before .before
 
 abbrev es : tie.At-loop2 Inv-loop μ-loop Inv-loop2 μ-loop2 → List Entry
 es s = let a = given (stopped s) .args in lined (a .t1 .entries) (a .t1 .len) (a .new) (stopped s .loop .total) (stopped s .loop .places)
 
 abbrev ms : tie.At-loop2 Inv-loop μ-loop Inv-loop2 μ-loop2 → List ℕ
-ms s = s .before .before .before .mark-all .last .1 .1 .1 .1 .1 .1 .0
+ms s = s .before .mark-all .last .1 .1 .1 .1 .1 .1 .0
+
+ended : (s : tie.At-loop2 Inv-loop μ-loop Inv-loop2 μ-loop2) → stopped s .loop .at ≡ given (stopped s) .args .t1 .len
+ended s = omega (arith, stopped s .loop .inv .0 .inside, s .before .before .before .before .before .loop-test .left)
 
 in-places : (s : tie.At-loop2 Inv-loop μ-loop Inv-loop2 μ-loop2) → stopped s .loop .total ≤ length (stopped s .loop .places)
-in-places s = let x = stopped s in omega (arith, x .loop .inv .long .0, short (given x), all-in (x .loop .inv) (full (given x)) (s .before .before .before .before .before .before .before .loop-test .left))
+in-places s = let x = stopped s in omega (arith, x .loop .inv .0 .long .0, short (given x), all-in (x .loop .inv .0) (full (given x)) (s .before .before .before .before .before .loop-test .left))
 
 all-places : (s : tie.At-loop2 Inv-loop μ-loop Inv-loop2 μ-loop2) → length (es s) ≡ stopped s .loop .total
 all-places s = let a = given (stopped s) .args in lined-length (a .t1 .entries) (a .t1 .len) (a .new) (stopped s .loop .total) (stopped s .loop .places) (in-places s)
 
 in-marks : (s : tie.At-loop2 Inv-loop μ-loop Inv-loop2 μ-loop2) → stopped s .loop .total ≤ length (ms s)
-in-marks s = omega (arith, in-places s, stopped s .loop .inv .long .0, s .before .before .before .mark-all .ensures .0)
+in-marks s = omega (arith, in-places s, stopped s .loop .inv .0 .long .0, s .before .mark-all .ensures .0)
 
 -- what has a mark is what sifting keeps
 all : (s : tie.At-loop2 Inv-loop μ-loop Inv-loop2 μ-loop2) →
@@ -90,8 +95,8 @@ all : (s : tie.At-loop2 Inv-loop μ-loop Inv-loop2 μ-loop2) →
 all s =
     let x = stopped s in
     let a = given x .args in
-    rw (← in-line (x .loop .inv) (full (given x)) (s .before .before .before .before .before .before .before .loop-test .left)) (
-    all-marked (take (a .t1 .count) (a .t1 .boards)) (a .clock) (es s) (x .loop .inv .their-ticks) (x .loop .inv .their-bits) 1025 (omega (arith, all-places s, in-places s, x .loop .inv .long .0)) (s .before .before .before .mark-all .ensures .1)
+    rw (← in-line (x .loop .inv .0) (full (given x)) (s .before .before .before .before .before .loop-test .left)) (
+    all-marked (take (a .t1 .count) (a .t1 .boards)) (a .clock) (es s) (x .loop .inv .0 .their-ticks) (x .loop .inv .0 .their-bits) 1025 (omega (arith, all-places s, in-places s, x .loop .inv .0 .long .0)) (s .before .mark-all .ensures .1)
     )
 
 enough : (s : tie.At-loop2 Inv-loop μ-loop Inv-loop2 μ-loop2) → length (marked (ms s) (es s)) ≤ 1024
@@ -105,10 +110,12 @@ room t =
     Kept.place (s .loop2 .inv) (omega (arith, all-places s, t .before .loop2-test .taken)) (omega (arith, in-marks s, t .before .loop2-test .taken)) (enough s) (t .if2 .taken)
 
 loop-holds : tie.Need-loop-holds Inv-loop μ-loop Inv-loop2 μ-loop2
-loop-holds c = begins refl refl refl (c .before .pre .1)
+loop-holds c =
+    let b = c .before .before in
+    (begins refl refl refl (b .pre .1), record { all-places = all-entries b; zeros = refl; behind = refl })
 
 add-loop : tie.Need-add-loop Inv-loop μ-loop Inv-loop2 μ-loop2
-add-loop c = omega (arith, c .loop .inv .few, given c .pre .0 .short)
+add-loop c = omega (arith, c .loop .inv .0 .few, given c .pre .0 .short)
 
 mul-old : tie.Need-mul-old Inv-loop μ-loop Inv-loop2 μ-loop2
 mul-old c = omega (arith, c .if1 .taken, given (c .before .before) .pre .0 .short)
@@ -116,8 +123,14 @@ mul-old c = omega (arith, c .if1 .taken, given (c .before .before) .pre .0 .shor
 element-copy-out-old : tie.Need-element-copy-out-old Inv-loop μ-loop Inv-loop2 μ-loop2
 element-copy-out-old c = omega (arith, c .if1 .taken, given (c .before .before) .pre .0 .short)
 
+mul-entries : tie.Need-mul-entries Inv-loop μ-loop Inv-loop2 μ-loop2
+mul-entries c = omega (arith, c .before .if1 .taken, given (c .before .before .before) .pre .0 .short)
+
+array-set-from-entries : tie.Need-array-set-from-entries Inv-loop μ-loop Inv-loop2 μ-loop2
+array-set-from-entries c = omega (arith, c .before .if1 .taken, given (c .before .before .before) .pre .0 .short)
+
 meet-requires : tie.Need-meet-requires Inv-loop μ-loop Inv-loop2 μ-loop2
-meet-requires c κs = omega (arith, c .before .before .loop .inv .inside, given (c .before .before) .pre .0 .short)
+meet-requires c κs = omega (arith, c .before .before .loop .inv .0 .inside, given (c .before .before) .pre .0 .short)
 
 mul-places : tie.Need-mul-places Inv-loop μ-loop Inv-loop2 μ-loop2
 mul-places c = omega (arith, below c)
@@ -146,33 +159,32 @@ loop-less c = omega (arith, met (c .before) .one)
 loop-again : tie.Need-loop-again Inv-loop μ-loop Inv-loop2 μ-loop2
 loop-again c =
     let m = c .before in
-    let s = m .before .before .before in
-    arrives (s .loop .inv) (short (given s)) (met m) (c .bit .ensures)
+    let s = m .before .before .before in (
+      arrives (s .loop .inv .0) (short (given s)) (met m) (c .bit .ensures),
+      cleared-on (s .loop .inv .1) (met m) (given s .pre .0 .short) (⊎-elim (λ w. inl (w .0 .taken, w .2)) (λ w. inr (w .0 .left, w .1)) (m .before .if1 .came)),
+    )
 
 mark-all-requires : tie.Need-mark-all-requires Inv-loop μ-loop Inv-loop2 μ-loop2
 mark-all-requires c κs =
     let s = c .before .before .before .before in
     let p = given s .pre .0 in
-    let l = s .loop .inv .long in
-    (l .1, l .2, refl, omega (arith, short (given s), all-in (s .loop .inv) (full (given s)) (c .before .before .before .loop-test .left)), p .few, p .cells)
-
-cleared-requires : tie.Need-cleared-requires Inv-loop μ-loop Inv-loop2 μ-loop2
-cleared-requires c κs = c .before .before .before .before .before .before .before .before .pre .0 .short
+    let l = s .loop .inv .0 .long in
+    (l .1, l .2, refl, omega (arith, short (given s), all-in (s .loop .inv .0) (full (given s)) (c .before .before .before .loop-test .left)), p .few, p .cells)
 
 loop2-holds : tie.Need-loop2-holds Inv-loop μ-loop Inv-loop2 μ-loop2
-loop2-holds c = Kept.begins (search needs)
+loop2-holds c = Kept.begins (c .before .before .before .before .before .loop .inv .1 .all-places)
 
 add-i : tie.Need-add-i Inv-loop μ-loop Inv-loop2 μ-loop2
-add-i c = omega (arith, in-marks (c .before), c .before .before .before .before .mark-all .ensures .0)
+add-i c = omega (arith, in-marks (c .before), c .before .before .mark-all .ensures .0)
 
 array-read-if2 : tie.Need-array-read-if2 Inv-loop μ-loop Inv-loop2 μ-loop2
-array-read-if2 c = omega (arith, in-marks (c .before), c .loop2-test .taken, c .before .before .before .before .mark-all .ensures .0)
+array-read-if2 c = omega (arith, in-marks (c .before), c .loop2-test .taken, c .before .before .mark-all .ensures .0)
 
 mul-wide : tie.Need-mul-wide Inv-loop μ-loop Inv-loop2 μ-loop2
-mul-wide c = let s = c .before .before in omega (arith, in-places s, stopped s .loop .inv .long .0, c .before .loop2-test .taken)
+mul-wide c = let s = c .before .before in omega (arith, in-places s, stopped s .loop .inv .0 .long .0, c .before .loop2-test .taken)
 
 array-read-wide : tie.Need-array-read-wide Inv-loop μ-loop Inv-loop2 μ-loop2
-array-read-wide c = let s = c .before .before in omega (arith, in-places s, stopped s .loop .inv .long .0, c .before .loop2-test .taken)
+array-read-wide c = let s = c .before .before in omega (arith, in-places s, stopped s .loop .inv .0 .long .0, c .before .loop2-test .taken)
 
 wide-requires : tie.Need-wide-requires Inv-loop μ-loop Inv-loop2 μ-loop2
 wide-requires c κs = search needs
@@ -183,11 +195,11 @@ mul-e c = omega (arith, c .if3 .taken, given (stopped (c .before .before .before
 element-copy-out-e : tie.Need-element-copy-out-e Inv-loop μ-loop Inv-loop2 μ-loop2
 element-copy-out-e c = omega (arith, c .if3 .taken, given (stopped (c .before .before .before .before)) .pre .0 .short)
 
-mul-entries : tie.Need-mul-entries Inv-loop μ-loop Inv-loop2 μ-loop2
-mul-entries c = omega (arith, room (c .before .before))
+mul-entries-2 : tie.Need-mul-entries-2 Inv-loop μ-loop Inv-loop2 μ-loop2
+mul-entries-2 c = omega (arith, room (c .before .before))
 
-array-set-from-entries : tie.Need-array-set-from-entries Inv-loop μ-loop Inv-loop2 μ-loop2
-array-set-from-entries c = room (c .before .before)
+array-set-from-entries-2 : tie.Need-array-set-from-entries-2 Inv-loop μ-loop Inv-loop2 μ-loop2
+array-set-from-entries-2 c = room (c .before .before)
 
 add-kept : tie.Need-add-kept Inv-loop μ-loop Inv-loop2 μ-loop2
 add-kept c = omega (arith, room (c .before .before))
@@ -221,7 +233,7 @@ returns : tie.Need-returns Inv-loop μ-loop Inv-loop2 μ-loop2
 returns c =
     let s = c .before in
     let a = given (stopped s) .args in
-    let r = kept-all (s .loop2 .inv) (a .t1 .len) (a .t1 .entries) (s .before .cleared .ensures) (omega (arith, all-places s, c .loop2-test .left)) in
+    let r = kept-all (s .loop2 .inv) (a .t1 .len) (a .t1 .entries) (cleared (stopped s .loop .inv .1) (ended s)) (omega (arith, all-places s, c .loop2-test .left)) in
     rw (← all s, ← r .0, ← r .1)
 
 pub walk-spec : {M : Type 1} → statement M
@@ -236,6 +248,8 @@ walk-spec =
     add-loop
     mul-old
     element-copy-out-old
+    mul-entries
+    array-set-from-entries
     meet-requires
     mul-places
     array-write-places
@@ -247,7 +261,6 @@ walk-spec =
     loop-less
     loop-again
     mark-all-requires
-    cleared-requires
     loop2-holds
     add-i
     array-read-if2
@@ -256,8 +269,8 @@ walk-spec =
     wide-requires
     mul-e
     element-copy-out-e
-    mul-entries
-    array-set-from-entries
+    mul-entries-2
+    array-set-from-entries-2
     add-kept
     loop2-less
     loop2-again
