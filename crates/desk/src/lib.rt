@@ -1,8 +1,8 @@
 // The desk and its calls. A desk goes in by value and comes back by value, with the answer beside it.
 ghost use mathlib.Core.Path.{_≡_};
 ghost use Prim.Native.Nat.{_≤_, min};
-ghost use lib.ListN.{length};
-ghost use Rattle.rules.specs.Desk.{fresh as freshDesk, loaded};
+ghost use lib.ListN.{length, take as first};
+ghost use Rattle.rules.specs.Desk.{fresh as freshDesk};
 ghost use Rattle.rules.specs.Moments.{reached as reachedBy};
 ghost use Rattle.rules.specs.Calls.{lengthCall, placeCall, boardCall, openCall, requestCall, stepCall, messageCall};
 ghost use Rattle.rules.specs.Calls.Reply.{refused as refusedWith, accepted as acceptedWith};
@@ -153,16 +153,14 @@ fn earlier(a: usize, b: u32) -> u32
 }
 
 // The earliest moment above the clock over all boards, or the target where that comes first.
-fn reached(desk: Desk, target: u32) -> u32
-    requires { ⌜ desk .count ≤ 32 ⌝ }
-    ensures { λ r. ⌜ r ≡ reachedBy (loaded desk) (desk .time .clock) target ⌝ }
+fn reached(boards: [Board; 32], count: usize, clock: u32, target: u32) -> u32
+    requires { ⌜ count ≤ 32 ⌝ }
+    ensures { λ r. ⌜ r ≡ reachedBy (first count boards) clock target ⌝ }
 {
-    let clock = desk.time.clock;
-    let count = desk.count;
     let mut at = target;
     let mut i: usize = 0;
     while i < count {
-        let board = desk.boards[i];
+        let board = boards[i];
         at = earlier(rules::next_moment(board, clock), at);
         i += 1;
     }
@@ -250,7 +248,8 @@ pub fn step(desk: Desk, target: u32, reply: &mut [u32]) -> Moved
             },
         };
     }
-    move_on(desk, reached(desk, target), reply)
+    let boards = desk.boards;
+    move_on(desk, reached(boards, desk.count, clock, target), reply)
 }
 
 fn from_asked(answer: Asked) -> Answered
@@ -274,18 +273,18 @@ fn from_stepped(answer: Stepped) -> Answered
 fn asked(call: Called) -> Taken
     ensures { λ r. ⌜ r ≡ takenFrom call ⌝ }
 {
-    let desk = call.desk;
     let answered = call.answer;
     let answer = from_asked(answered);
+    let desk = call.desk;
     Taken { desk, answer }
 }
 
 fn stepped(call: Moved) -> Taken
     ensures { λ r. ⌜ r ≡ takenBy call ⌝ }
 {
-    let desk = call.desk;
     let answered = call.answer;
     let answer = from_stepped(answered);
+    let desk = call.desk;
     Taken { desk, answer }
 }
 

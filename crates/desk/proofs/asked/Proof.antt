@@ -7,7 +7,7 @@ from-asked-requires : tie.Need-from-asked-requires
 from-asked-requires c κs = search needs
 
 returns : tie.Need-returns
-returns c = rw (c .from-asked .ensures)
+returns c = rw (c .before .from-asked .ensures)
 
 pub asked-spec : {M : Type 1} → statement M
 asked-spec = tie.close (tie.spec from-asked-requires returns)

@@ -84,7 +84,7 @@ returns-6 c =
 
 reached-requires : tie.Need-reached-requires
 reached-requires c κs =
-    let a = c .before .before .before .before .before .before .before .before .before .before .args in
+    let a = c .before .before .before .before .before .before .before .before .before .before .before .args in
     let d = a .desk in
     let o : disorder d ≡ false = cc in
     in-order d o .few
@@ -98,10 +98,10 @@ same-length c = search needs
 returns-7 : tie.Need-returns-7
 unfolding stepCall
 returns-7 c =
-    let a = c .before .before .before .before .before .before .before .before .before .before .before .before .before .before .before .args in
+    let a = c .before .before .before .before .before .before .before .before .before .before .before .before .before .before .before .before .args in
     let d = a .desk in
     let o : disorder d ≡ false = cc in
-    let t = c .before .before .before .before .before in
+    let t = c .before .before .before .before .before .before in
     let long = rw (t .before .before .reply-need .ensures) at (t .before .if5 .left) in
     let at = c .before .before .before .before .reached .ensures in
     let e = c .before .before .move-on .ensures in

@@ -7,7 +7,7 @@ from-stepped-requires : tie.Need-from-stepped-requires
 from-stepped-requires c κs = search needs
 
 returns : tie.Need-returns
-returns c = rw (c .from-stepped .ensures)
+returns c = rw (c .before .from-stepped .ensures)
 
 pub stepped-spec : {M : Type 1} → statement M
 stepped-spec = tie.close (tie.spec from-stepped-requires returns)
