@@ -125,6 +125,7 @@ pub fn load(desk: Desk, board: Board) -> Called
     asked(load_in_order(desk, board))
 }
 
+// The calls on a desk in order end in `_in_order`: a message asks for disorder once, and the desk is copied less often.
 fn load_in_order(desk: Desk, board: Board) -> Taken
     requires { ⌜ disorder desk ≡ false ⌝ }
     ensures { λ r. ⌜ taken r [] ≡ askedBy [] (boardCall desk board) ⌝ }
@@ -258,6 +259,7 @@ fn request_in_order(desk: Desk, topic: u32, id: u32, score: u32) -> Taken
 }
 
 // A step that moves the clock: the answers of all boards due, and the list that is still needed then.
+// The list is thinned before the reply is written: the other way round the desk is copied once more.
 fn move_on(desk: Desk, at: u32, reply: &mut [u32]) -> Taken
     ensures { λ r. ⌜ (r ≡ movedBy desk at (length (now (reply .entry)))) × (now (reply .exit) ≡ blocksInto desk at (now (reply .entry))) ⌝ }
 {

@@ -86,13 +86,23 @@ add-next c = omega (arith, room (c .before .before .before))
 loop2-holds : tie.Need-loop2-holds Inv-loop2 μ-loop2 Inv-loop μ-loop
 loop2-holds c = let t = c .before .before .before in (omega arith, omega arith, begins (omega (arith, room t, t .before .loop .inv .4 .same)))
 
+-- the board's turn around a turn of its block, its moment and the entries
+abbrev outer : tie.At-loop2 Inv-loop2 μ-loop2 Inv-loop μ-loop → tie.At-loop Inv-loop2 μ-loop2 Inv-loop μ-loop
+outer s = s .before .before .before .before .before
+
+abbrev moment : tie.At-loop Inv-loop2 μ-loop2 Inv-loop μ-loop → ℕ
+moment o = o .before .before .args .at
+
+abbrev entries : tie.At-loop Inv-loop2 μ-loop2 Inv-loop μ-loop → List Entry
+entries o = listed (o .before .before .args .t1)
+
 -- the turn's entry, and those behind it
 abbrev entry : tie.At-loop2 Inv-loop2 μ-loop2 Inv-loop μ-loop → Entry
-entry s = getD (s .before .before .before .before .before .before .before .args .t1 .entries) (s .loop2 .j) noEntry
+entry s = getD (outer s .before .before .args .t1 .entries) (s .loop2 .j) noEntry
 
 met : (c : tie.In-loop2 Inv-loop2 μ-loop2 Inv-loop μ-loop)
-    → drop (c .before .loop2 .j) (listed (c .before .before .before .before .before .before .before .before .args .t1)) ≡ entry (c .before) ∷ drop (c .before .loop2 .j + 1) (listed (c .before .before .before .before .before .before .before .before .args .t1))
-met c = turn _ _ noEntry (few-entries (c .before .before .before .before .before .before .before .before)) _ (c .loop2-test .taken)
+    → drop (c .before .loop2 .j) (entries (outer (c .before))) ≡ entry (c .before) ∷ drop (c .before .loop2 .j + 1) (entries (outer (c .before)))
+met c = turn _ _ noEntry (few-entries (outer (c .before) .before .before)) _ (c .loop2-test .taken)
 
 mul-e : tie.Need-mul-e Inv-loop2 μ-loop2 Inv-loop μ-loop
 mul-e c = omega (arith, c .before .before .before .before .before .before .before .before .before .pre .1)
@@ -152,10 +162,10 @@ loop2-again c =
 
 -- The loop is left where no entry is left, or none of k.
 shown-all : (c : tie.Left-loop2 Inv-loop2 μ-loop2 Inv-loop μ-loop)
-    → stillShown (board (c .before .before .before .before .before .before)) (c .before .before .before .before .before .before .before .before .args .at) (c .before .loop2 .shown) (drop (c .before .loop2 .j) (listed (c .before .before .before .before .before .before .before .before .args .t1))) ≡ []
+    → stillShown (board (outer (c .before))) (moment (outer (c .before))) (c .before .loop2 .shown) (drop (c .before .loop2 .j) (entries (outer (c .before)))) ≡ []
 shown-all c =
     let s = c .before in
-    let o = s .before .before .before .before .before in
+    let o = outer s in
     let a = o .before .before .args in
     ⊎-elim
     (λ w. rw (turned (a .t1 .entries) (a .t1 .len) noEntry (few-entries (o .before .before)) (s .loop2 .j) (w .left)) (take-nil (board o .k - s .loop2 .shown)))
@@ -164,8 +174,8 @@ shown-all c =
 
 -- a block has room for its head, and the blocks behind it for theirs
 head-room : (c : tie.Left-loop2 Inv-loop2 μ-loop2 Inv-loop μ-loop)
-    → (c .before .before .before .before .before .before .loop .next + 2 ≤ length (c .before .loop2 .reply))
-    × (c .before .loop2 .next + replyNeed (behind (c .before .before .before .before .before .before)) ≤ length (c .before .before .before .before .before .before .before .before .args .reply .now))
+    → (outer (c .before) .loop .next + 2 ≤ length (c .before .loop2 .reply))
+    × (c .before .loop2 .next + replyNeed (behind (outer (c .before))) ≤ length (outer (c .before) .before .before .args .reply .now))
 head-room c =
     let s = c .before in
     let t = s .before .before .before .before in
@@ -198,20 +208,20 @@ loop-less c = omega arith
 
 -- the head written, the block stands
 blocked : (c : tie.Left-loop2 Inv-loop2 μ-loop2 Inv-loop μ-loop) {part : List ℕ}
-    → isMoment (board (c .before .before .before .before .before .before)) (c .before .before .before .before .before .before .before .before .args .at) ≡ true
-    → part ≡ written (c .before .before .before .before .before .before .loop .i ∷ c .before .loop2 .shown ∷ []) (take (length (c .before .loop2 .reply) - c .before .before .before .before .before .before .loop .next) (drop (c .before .before .before .before .before .before .loop .next) (c .before .loop2 .reply)))
-    → Filling (c .before .before .before .before .before .before .before .before .args .reply .now)
-    (take (c .before .before .before .before .before .before .loop .next) (c .before .loop2 .reply) ++ (part ++ drop (length (c .before .loop2 .reply) - c .before .before .before .before .before .before .loop .next) (drop (c .before .before .before .before .before .before .loop .next) (c .before .loop2 .reply))))
+    → isMoment (board (outer (c .before))) (moment (outer (c .before))) ≡ true
+    → part ≡ written (outer (c .before) .loop .i ∷ c .before .loop2 .shown ∷ []) (take (length (c .before .loop2 .reply) - outer (c .before) .loop .next) (drop (outer (c .before) .loop .next) (c .before .loop2 .reply)))
+    → Filling (outer (c .before) .before .before .args .reply .now)
+    (take (outer (c .before) .loop .next) (c .before .loop2 .reply) ++ (part ++ drop (length (c .before .loop2 .reply) - outer (c .before) .loop .next) (drop (outer (c .before) .loop .next) (c .before .loop2 .reply))))
     (c .before .loop2 .next)
-    (blocks (c .before .before .before .before .before .before .loop .i + 1) (behind (c .before .before .before .before .before .before)) (c .before .before .before .before .before .before .before .before .args .at) (listed (c .before .before .before .before .before .before .before .before .args .t1)))
-    (blocks 0 (loaded (c .before .before .before .before .before .before .before .before .args .t1)) (c .before .before .before .before .before .before .before .before .args .at) (listed (c .before .before .before .before .before .before .before .before .args .t1)))
+    (blocks (outer (c .before) .loop .i + 1) (behind (outer (c .before))) (moment (outer (c .before))) (entries (outer (c .before))))
+    (blocks 0 (loaded (outer (c .before) .before .before .args .t1)) (moment (outer (c .before))) (entries (outer (c .before))))
 unfolding blocks
 blocked c e p =
     let s = c .before in
     let t = s .before .before .before .before in
     let o = t .before in
     let v = o .loop .inv .4 in
-    heads (s .loop2 .inv .2) (shown-all c) (omega (arith, room t, v .same)) (o .loop .i) (blocks (o .loop .i + 1) (behind o) (o .before .before .args .at) (listed (o .before .before .args .t1)))
+    heads (s .loop2 .inv .2) (shown-all c) (omega (arith, room t, v .same)) (o .loop .i) (blocks (o .loop .i + 1) (behind o) (moment o) (entries o))
     (rw (here t, blocks, e, ← add-one (o .loop .i)) at v)
     (omega (arith, head-room c .1, v .same))
     p
