@@ -16,7 +16,7 @@ use Rattle.rules.specs.Moments.{reached}
 use Rattle.rules.specs.SharedList.{named, higher, placed}
 use Rattle.rules.specs.Cells.{cells}
 use Rattle.rules.specs.Refusals.{entryFits, replyNeed, InOrder}
-use Rattle.rules.specs.Calls.{withList, requested, movedTo}
+use Rattle.rules.specs.Calls.{withList, requested, movedTo, steppedBy}
 use Rattle.rules.specs.declared.Board.{Board}
 use Rattle.rules.specs.declared.Entry.{Entry}
 use Rattle.rules.specs.declared.Desk.{Desk}
@@ -24,7 +24,7 @@ use Rattle.rules.proofs.Fitting.{board-fits, all-slide, entry-fits}
 use Rattle.rules.proofs.Stepping.{reached-from}
 use Rattle.rules.proofs.Nesting.{named-cells}
 use Rattle.reply.specs.Written.{writable, wrote, blocksInto}
-use Rattle.desk.specs.Outcomes.{stepOutcome, movedBy}
+use Rattle.desk.specs.Outcomes.{taken, movedBy}
 use Rattle.walk.specs.Walk.{sumCells, walkable, thinnedTo, withEntry}
 
 -- k is at least 1
@@ -63,7 +63,7 @@ module _ (d : Desk) (o : InOrder d) where
 
   -- A step that moves the clock, by its parts.
   pub moves : (T : ℕ) (slice : List ℕ) → d .time .clock ≤ T → replyNeed (loaded d) ≤ length slice
-      → stepOutcome (movedBy d T (length slice)) (blocksInto d T slice) ≡ movedTo d T slice
+      → taken (movedBy d T (length slice)) (blocksInto d T slice) ≡ steppedBy (movedTo d T slice)
   unfolding wrote blocksInto writable
   moves T slice h k =
       rw (

@@ -20,23 +20,25 @@ abbrev pub stepOutcome : Moved → List ℕ → StepOutcome
 stepOutcome r slice = record { reply = stepped (r .answer); desk = r .desk; slice = slice }
 
 -- a step that moves the clock, by what the walk and the reply promise of any desk
-abbrev pub movedBy : Desk → ℕ → ℕ → Moved
-movedBy d T room = record { desk = thinnedTo d T; answer = Stepped.Reached T (wrote d T room .due) (wrote d T room .words) }
+abbrev pub movedBy : Desk → ℕ → ℕ → Taken
+movedBy d T room = record { desk = thinnedTo d T; answer = Answered.Reached T (wrote d T room .due) (wrote d T room .words) }
 
 abbrev pub taken : Taken → List ℕ → MessageOutcome
 taken r slice = record { reply = answered (r .answer); desk = r .desk; slice = slice }
 
--- a call's answer as a message's
-abbrev pub fromAsked : Asked → Answered
-fromAsked Asked.Accepted = Answered.Accepted
-fromAsked (Asked.Refused r) = Answered.Refused r
+-- a message's answer as a call's
+abbrev pub toAsked : Answered → Asked
+toAsked Answered.Accepted = Asked.Accepted
+toAsked (Answered.Reached clock due words) = Asked.Accepted
+toAsked (Answered.Refused r) = Asked.Refused r
 
-abbrev pub takenFrom : Called → Taken
-takenFrom c = record { desk = c .desk; answer = fromAsked (c .answer) }
+abbrev pub askedOf : Taken → Called
+askedOf t = record { desk = t .desk; answer = toAsked (t .answer) }
 
-abbrev pub fromStepped : Stepped → Answered
-fromStepped (Stepped.Reached clock due words) = Answered.Reached clock due words
-fromStepped (Stepped.Refused r) = Answered.Refused r
+abbrev pub toStepped : Answered → Stepped
+toStepped Answered.Accepted = Stepped.Reached 0 0 0
+toStepped (Answered.Reached clock due words) = Stepped.Reached clock due words
+toStepped (Answered.Refused r) = Stepped.Refused r
 
-abbrev pub takenBy : Moved → Taken
-takenBy c = record { desk = c .desk; answer = fromStepped (c .answer) }
+abbrev pub steppedOf : Taken → Moved
+steppedOf t = record { desk = t .desk; answer = toStepped (t .answer) }

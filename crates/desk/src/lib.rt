@@ -1,16 +1,16 @@
 // The desk and its calls. A desk goes in by value and comes back by value, with the answer beside it.
 ghost use mathlib.Core.Path.{_≡_};
+ghost use mathlib.Core.List.{[]};
+ghost use mathlib.Core.Bool.{false};
 ghost use Prim.Native.Nat.{_≤_, min};
-ghost use lib.ListN.{length};
-ghost use Rattle.rules.specs.Desk.{fresh as freshDesk, loaded};
+ghost use lib.ListN.{length, take as first};
+ghost use Rattle.rules.specs.Desk.{fresh as freshDesk};
 ghost use Rattle.rules.specs.Moments.{reached as reachedBy};
-ghost use Rattle.rules.specs.Calls.{lengthCall, placeCall, boardCall, openCall, requestCall, stepCall, messageCall};
-ghost use Rattle.rules.specs.Calls.Reply.{refused as refusedWith, accepted as acceptedWith};
-ghost use Rattle.rules.specs.Calls.Done.{done};
-ghost use Rattle.rules.specs.Refusals.{judged, kindRules};
-ghost use Rattle.rules.specs.Replies.{measured, found, answered};
+ghost use Rattle.rules.specs.Calls.{lengthCall, placeCall, boardCall, openCall, requestCall, stepCall, messageCall, askedBy, steppedBy};
+ghost use Rattle.rules.specs.Refusals.{disorder};
+ghost use Rattle.rules.specs.Replies.{measured, found};
 ghost use Rattle.reply.specs.Written.{blocksInto};
-ghost use Rattle.desk.specs.Outcomes.{called, stepOutcome, movedBy, taken, fromAsked, fromStepped, takenFrom, takenBy};
+ghost use Rattle.desk.specs.Outcomes.{called, stepOutcome, movedBy, taken, toAsked, toStepped, askedOf, steppedOf};
 use rules::Answered;
 use rules::Asked;
 use rules::Board;
@@ -63,23 +63,74 @@ pub fn fresh() -> Desk
     }
 }
 
-fn refused(desk: Desk, refusal: Refusal) -> Called
-    ensures { λ r. ⌜ r ≡ record { desk = desk; answer = Asked.Refused refusal } ⌝ }
+fn refused(desk: Desk, refusal: Refusal) -> Taken
+    ensures { λ r. ⌜ r ≡ record { desk = desk; answer = Answered.Refused refusal } ⌝ }
 {
-    Called {
+    Taken {
         desk,
-        answer: Asked::Refused(refusal),
+        answer: Answered::Refused(refusal),
     }
+}
+
+// A board, an open or a request never answers with a clock reached; a step never without one.
+fn to_asked(answer: Answered) -> Asked
+    ensures { λ r. ⌜ r ≡ toAsked answer ⌝ }
+{
+    match answer {
+        Answered::Accepted => Asked::Accepted,
+        Answered::Reached { clock, due, words } => Asked::Accepted,
+        Answered::Refused(refusal) => Asked::Refused(refusal),
+    }
+}
+
+fn to_stepped(answer: Answered) -> Stepped
+    ensures { λ r. ⌜ r ≡ toStepped answer ⌝ }
+{
+    match answer {
+        Answered::Accepted => Stepped::Reached {
+            clock: 0,
+            due: 0,
+            words: 0,
+        },
+        Answered::Reached { clock, due, words } => Stepped::Reached { clock, due, words },
+        Answered::Refused(refusal) => Stepped::Refused(refusal),
+    }
+}
+
+fn asked(taken: Taken) -> Called
+    ensures { λ r. ⌜ r ≡ askedOf taken ⌝ }
+{
+    let answered = taken.answer;
+    let answer = to_asked(answered);
+    let desk = taken.desk;
+    Called { desk, answer }
+}
+
+fn stepped(taken: Taken) -> Moved
+    ensures { λ r. ⌜ r ≡ steppedOf taken ⌝ }
+{
+    let answered = taken.answer;
+    let answer = to_stepped(answered);
+    let desk = taken.desk;
+    Moved { desk, answer }
 }
 
 // Load a board.
 pub fn load(desk: Desk, board: Board) -> Called
     ensures { λ r. ⌜ called r ≡ boardCall desk board ⌝ }
 {
-    let count = desk.count;
     if order::in_disorder(desk) {
-        return refused(desk, Refusal::Disorder);
+        return asked(refused(desk, Refusal::Disorder));
     }
+    asked(load_in_order(desk, board))
+}
+
+// The calls on a desk in order end in `_in_order`: a message asks for disorder once, and the desk is copied less often.
+fn load_in_order(desk: Desk, board: Board) -> Taken
+    requires { ⌜ disorder desk ≡ false ⌝ }
+    ensures { λ r. ⌜ taken r [] ≡ askedBy [] (boardCall desk board) ⌝ }
+{
+    let count = desk.count;
     if rules::board_fits(board) {
         if desk.time.phase == 1 {
             return refused(desk, Refusal::Phase);
@@ -91,9 +142,9 @@ pub fn load(desk: Desk, board: Board) -> Called
             let mut next = desk;
             next.boards[count] = board;
             next.count = count + 1;
-            return Called {
+            return Taken {
                 desk: next,
-                answer: Asked::Accepted,
+                answer: Answered::Accepted,
             };
         }
         return refused(desk, Refusal::Needs);
@@ -106,8 +157,15 @@ pub fn open(desk: Desk) -> Called
     ensures { λ r. ⌜ called r ≡ openCall desk ⌝ }
 {
     if order::in_disorder(desk) {
-        return refused(desk, Refusal::Disorder);
+        return asked(refused(desk, Refusal::Disorder));
     }
+    asked(open_in_order(desk))
+}
+
+fn open_in_order(desk: Desk) -> Taken
+    requires { ⌜ disorder desk ≡ false ⌝ }
+    ensures { λ r. ⌜ taken r [] ≡ askedBy [] (openCall desk) ⌝ }
+{
     if desk.time.phase == 1 {
         return refused(desk, Refusal::Phase);
     }
@@ -116,9 +174,9 @@ pub fn open(desk: Desk) -> Called
     }
     let mut next = desk;
     next.time.phase = 1;
-    Called {
+    Taken {
         desk: next,
-        answer: Asked::Accepted,
+        answer: Answered::Accepted,
     }
 }
 
@@ -153,16 +211,14 @@ fn earlier(a: usize, b: u32) -> u32
 }
 
 // The earliest moment above the clock over all boards, or the target where that comes first.
-fn reached(desk: Desk, target: u32) -> u32
-    requires { ⌜ desk .count ≤ 32 ⌝ }
-    ensures { λ r. ⌜ r ≡ reachedBy (loaded desk) (desk .time .clock) target ⌝ }
+fn reached(boards: [Board; 32], count: usize, clock: u32, target: u32) -> u32
+    requires { ⌜ count ≤ 32 ⌝ }
+    ensures { λ r. ⌜ r ≡ reachedBy (first count boards) clock target ⌝ }
 {
-    let clock = desk.time.clock;
-    let count = desk.count;
     let mut at = target;
     let mut i: usize = 0;
     while i < count {
-        let board = desk.boards[i];
+        let board = boards[i];
         at = earlier(rules::next_moment(board, clock), at);
         i += 1;
     }
@@ -174,8 +230,15 @@ pub fn request(desk: Desk, topic: u32, id: u32, score: u32) -> Called
     ensures { λ r. ⌜ called r ≡ requestCall desk topic id score ⌝ }
 {
     if order::in_disorder(desk) {
-        return refused(desk, Refusal::Disorder);
+        return asked(refused(desk, Refusal::Disorder));
     }
+    asked(request_in_order(desk, topic, id, score))
+}
+
+fn request_in_order(desk: Desk, topic: u32, id: u32, score: u32) -> Taken
+    requires { ⌜ disorder desk ≡ false ⌝ }
+    ensures { λ r. ⌜ taken r [] ≡ askedBy [] (requestCall desk topic id score) ⌝ }
+{
     if rules::request_fits(topic, score) {
         if desk.time.phase == 1 {
             let e = Entry {
@@ -185,9 +248,9 @@ pub fn request(desk: Desk, topic: u32, id: u32, score: u32) -> Called
                 topic,
             };
             let next = walk::with_entry(desk, e);
-            return Called {
+            return Taken {
                 desk: next,
-                answer: Asked::Accepted,
+                answer: Answered::Accepted,
             };
         }
         return refused(desk, Refusal::Phase);
@@ -195,24 +258,16 @@ pub fn request(desk: Desk, topic: u32, id: u32, score: u32) -> Called
     refused(desk, Refusal::Range)
 }
 
-fn denied(desk: Desk, refusal: Refusal) -> Moved
-    ensures { λ r. ⌜ r ≡ record { desk = desk; answer = Stepped.Refused refusal } ⌝ }
-{
-    Moved {
-        desk,
-        answer: Stepped::Refused(refusal),
-    }
-}
-
 // A step that moves the clock: the answers of all boards due, and the list that is still needed then.
-fn move_on(desk: Desk, at: u32, reply: &mut [u32]) -> Moved
+// The list is thinned before the reply is written: the other way round the desk is copied once more.
+fn move_on(desk: Desk, at: u32, reply: &mut [u32]) -> Taken
     ensures { λ r. ⌜ (r ≡ movedBy desk at (length (now (reply .entry)))) × (now (reply .exit) ≡ blocksInto desk at (now (reply .entry))) ⌝ }
 {
-    let wrote = reply::write_blocks(desk, at, reply);
     let next = walk::thinned(desk, at);
-    Moved {
+    let wrote = reply::write_blocks(desk, at, reply);
+    Taken {
         desk: next,
-        answer: Stepped::Reached {
+        answer: Answered::Reached {
             clock: at,
             due: wrote.due,
             words: wrote.words,
@@ -224,94 +279,53 @@ fn move_on(desk: Desk, at: u32, reply: &mut [u32]) -> Moved
 pub fn step(desk: Desk, target: u32, reply: &mut [u32]) -> Moved
     ensures { λ r. ⌜ stepOutcome r (now (reply .exit)) ≡ stepCall desk target (now (reply .entry)) ⌝ }
 {
-    let clock = desk.time.clock;
     if order::in_disorder(desk) {
-        return denied(desk, Refusal::Disorder);
+        return stepped(refused(desk, Refusal::Disorder));
     }
+    stepped(step_in_order(desk, target, reply))
+}
+
+fn step_in_order(desk: Desk, target: u32, reply: &mut [u32]) -> Taken
+    requires { ⌜ disorder desk ≡ false ⌝ }
+    ensures { λ r. ⌜ taken r (now (reply .exit)) ≡ steppedBy (stepCall desk target (now (reply .entry))) ⌝ }
+{
+    let clock = desk.time.clock;
     if 1000000000 < target {
-        return denied(desk, Refusal::Range);
+        return refused(desk, Refusal::Range);
     }
     if desk.time.phase != 1 {
-        return denied(desk, Refusal::Phase);
+        return refused(desk, Refusal::Phase);
     }
     if target < clock {
-        return denied(desk, Refusal::Past);
+        return refused(desk, Refusal::Past);
     }
     if reply.len() < reply::reply_need(desk) {
-        return denied(desk, Refusal::Reply);
+        return refused(desk, Refusal::Reply);
     }
     if target == clock {
-        return Moved {
+        return Taken {
             desk,
-            answer: Stepped::Reached {
+            answer: Answered::Reached {
                 clock,
                 due: 0,
                 words: 0,
             },
         };
     }
-    move_on(desk, reached(desk, target), reply)
-}
-
-fn from_asked(answer: Asked) -> Answered
-    ensures { λ r. ⌜ r ≡ fromAsked answer ⌝ }
-{
-    match answer {
-        Asked::Accepted => Answered::Accepted,
-        Asked::Refused(refusal) => Answered::Refused(refusal),
-    }
-}
-
-fn from_stepped(answer: Stepped) -> Answered
-    ensures { λ r. ⌜ r ≡ fromStepped answer ⌝ }
-{
-    match answer {
-        Stepped::Reached { clock, due, words } => Answered::Reached { clock, due, words },
-        Stepped::Refused(refusal) => Answered::Refused(refusal),
-    }
-}
-
-fn asked(call: Called) -> Taken
-    ensures { λ r. ⌜ r ≡ takenFrom call ⌝ }
-{
-    let desk = call.desk;
-    let answered = call.answer;
-    let answer = from_asked(answered);
-    Taken { desk, answer }
-}
-
-fn stepped(call: Moved) -> Taken
-    ensures { λ r. ⌜ r ≡ takenBy call ⌝ }
-{
-    let desk = call.desk;
-    let answered = call.answer;
-    let answer = from_stepped(answered);
-    Taken { desk, answer }
-}
-
-fn unknown(desk: Desk) -> Taken
-    ensures { λ r. ⌜ answered (r .answer) ≡ judged (kindRules desk) refusedWith (acceptedWith done) ⌝ }
-    ensures { λ r. ⌜ r .desk ≡ desk ⌝ }
-{
-    if order::in_disorder(desk) {
-        return Taken {
-            desk,
-            answer: Answered::Refused(Refusal::Disorder),
-        };
-    }
-    Taken {
-        desk,
-        answer: Answered::Refused(Refusal::Kind),
-    }
+    let boards = desk.boards;
+    move_on(desk, reached(boards, desk.count, clock, target), reply)
 }
 
 // Take a message: the call that its kind names.
 pub fn take(desk: Desk, message: Message, reply: &mut [u32]) -> Taken
     ensures { λ r. ⌜ taken r (now (reply .exit)) ≡ messageCall desk message (now (reply .entry)) ⌝ }
 {
+    if order::in_disorder(desk) {
+        return refused(desk, Refusal::Disorder);
+    }
     let kind = message.kind;
     match kind {
-        1 => asked(load(
+        1 => load_in_order(
             desk,
             Board {
                 mask: message.byte,
@@ -319,10 +333,10 @@ pub fn take(desk: Desk, message: Message, reply: &mut [u32]) -> Taken
                 slide: message.second,
                 k: message.third,
             },
-        )),
-        2 => asked(request(desk, message.byte, message.first, message.second)),
-        3 => asked(open(desk)),
-        4 => stepped(step(desk, message.first, reply)),
-        0 | 5..=4294967295 => unknown(desk),
+        ),
+        2 => request_in_order(desk, message.byte, message.first, message.second),
+        3 => open_in_order(desk),
+        4 => step_in_order(desk, message.first, reply),
+        0 | 5..=4294967295 => refused(desk, Refusal::Kind),
     }
 }

@@ -65,9 +65,9 @@ fn take_from(
         third,
     };
     let taken = desk::take(desk, message, reply);
-    let next = taken.desk;
     let answer = taken.answer;
     let replied = as_numbers(answer);
+    let next = taken.desk;
     Given {
         desk: next,
         replied,

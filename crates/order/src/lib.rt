@@ -3,23 +3,24 @@ ghost use mathlib.Core.Path.{_≡_};
 ghost use mathlib.Core.Bool.{true, _&&_};
 ghost use Prim.Native.Nat.{_+_, _≤_};
 ghost use lib.Dec.{leb};
+ghost use lib.ListN.{take};
 ghost use Rattle.lists.specs.Views.{all};
-ghost use Rattle.rules.specs.Desk.{boardFits, need as needOf, needs, loaded, listed};
+ghost use Rattle.rules.specs.Desk.{boardFits, need as needOf, needs, loaded};
 ghost use Rattle.rules.specs.Refusals.{disorder, entryFits};
-ghost use Rattle.order.specs.Standing.{standing};
+ghost use Rattle.order.specs.Standing.{heads};
 use rules::Board;
 use rules::Desk;
 use rules::Entry;
+use rules::Time;
 
 // Whether all boards are in their ranges.
-fn boards_fit(desk: Desk) -> bool
-    requires { ⌜ desk .count ≤ 32 ⌝ }
-    ensures { λ r. ⌜ r ≡ all boardFits (loaded desk) ⌝ }
+fn boards_fit(boards: [Board; 32], count: usize) -> bool
+    requires { ⌜ count ≤ 32 ⌝ }
+    ensures { λ r. ⌜ r ≡ all boardFits (take count boards) ⌝ }
 {
-    let count = desk.count;
     let mut i: usize = 0;
     while i < count {
-        let board = desk.boards[i];
+        let board = boards[i];
         if rules::board_fits(board) {
             i += 1;
         } else {
@@ -29,15 +30,14 @@ fn boards_fit(desk: Desk) -> bool
     true
 }
 
-fn sum_of_needs(desk: Desk) -> usize
-    requires { ⌜ (desk .count ≤ 32) × (all boardFits (loaded desk) ≡ true) ⌝ }
-    ensures { λ r. ⌜ r ≡ needs (loaded desk) ⌝ }
+fn sum_of_needs(boards: [Board; 32], count: usize) -> usize
+    requires { ⌜ (count ≤ 32) × (all boardFits (take count boards) ≡ true) ⌝ }
+    ensures { λ r. ⌜ r ≡ needs (take count boards) ⌝ }
 {
-    let count = desk.count;
     let mut sum: usize = 0;
     let mut i: usize = 0;
     while i < count {
-        let board = desk.boards[i];
+        let board = boards[i];
         sum += rules::need(board);
         i += 1;
     }
@@ -48,6 +48,7 @@ fn sum_of_needs(desk: Desk) -> usize
 pub fn fits_beside(desk: Desk, board: Board) -> bool
     ensures { λ r. ⌜ r ≡ (leb (desk .count) 32 && leb (needOf board + needs (loaded desk)) 1024) ⌝ }
 {
+    let boards = desk.boards;
     let count = desk.count;
     if 32 < count {
         return false;
@@ -59,7 +60,7 @@ pub fn fits_beside(desk: Desk, board: Board) -> bool
     let mut left: usize = 1024 - own;
     let mut i: usize = 0;
     while i < count {
-        let other = desk.boards[i];
+        let other = boards[i];
         let need = rules::need(other);
         if left < need {
             return false;
@@ -80,59 +81,59 @@ fn entry_fits(clock: u32, e: Entry) -> bool
     false
 }
 
-// Whether all entries fit, and none has a score above the one before it; the limit stands before the first.
-fn entries_stand(desk: Desk) -> bool
-    requires { ⌜ desk .len ≤ 1024 ⌝ }
-    ensures { λ r. ⌜ r ≡ standing (desk .time .clock) 1000000000 (listed desk) ⌝ }
+// Whether all that document 01 asks of a desk before its entries is in order.
+fn heads_stand(time: Time, boards: [Board; 32], count: usize, len: usize) -> bool
+    ensures { λ r. ⌜ r ≡ heads time (take count boards) count len ⌝ }
 {
-    let clock = desk.time.clock;
-    let len = desk.len;
-    let mut last: u32 = 1000000000;
-    let mut i: usize = 0;
-    while i < len {
-        let e = desk.entries[i];
-        if entry_fits(clock, e) {
-            if last < e.score {
-                return false;
-            }
-            last = e.score;
-            i += 1;
-        } else {
+    if 32 < count {
+        return false;
+    }
+    if 1 < time.phase {
+        return false;
+    }
+    if 1000000000 < time.clock {
+        return false;
+    }
+    if boards_fit(boards, count) {
+        let sum = sum_of_needs(boards, count);
+        if 1024 < sum {
             return false;
         }
+        if sum < len {
+            return false;
+        }
+        if time.phase == 1 {
+            return true;
+        }
+        return len == 0;
     }
-    true
+    false
 }
 
+// The entries stand where all fit and none has a score above the one before it; the limit is before the first.
 pub fn in_disorder(desk: Desk) -> bool
     ensures { λ r. ⌜ r ≡ disorder desk ⌝ }
 {
+    let time = desk.time;
+    let boards = desk.boards;
     let len = desk.len;
-    let phase = desk.time.phase;
-    if 32 < desk.count {
-        return true;
-    }
-    if 1 < phase {
-        return true;
-    }
-    if 1000000000 < desk.time.clock {
-        return true;
-    }
-    if boards_fit(desk) {
-        let sum = sum_of_needs(desk);
-        if 1024 < sum {
-            return true;
+    if heads_stand(time, boards, desk.count, len) {
+        let clock = time.clock;
+        let mut last: u32 = 1000000000;
+        let mut i: usize = 0;
+        while i < len {
+            let e = desk.entries[i];
+            if entry_fits(clock, e) {
+                if last < e.score {
+                    return true;
+                }
+                last = e.score;
+                i += 1;
+            } else {
+                return true;
+            }
         }
-        if sum < len {
-            return true;
-        }
-        if phase == 0 {
-            return 0 < len;
-        }
-        if entries_stand(desk) {
-            return false;
-        }
-        return true;
+        return false;
     }
     true
 }

@@ -1,12 +1,9 @@
--- Each answer is by the first rule that is given; the list is what the rule names.
-use Rattle.rules.specs.Calls.{requestCall, entryAt}
-use mathlib.Core.Path.{_≡_, refl}
-use mathlib.Core.Bool.{true, false}
-use borrow.Author.Tests.{eq-eqb, ne-eqb}
+-- 99, or the call on a desk in order.
+use mathlib.Core.Path.{_≡_}
+use mathlib.Core.Bool.{true}
 use Rattle.rules.specs.Refusals.{disorder}
-use Rattle.rules.proofs.Refusing.{in-order}
-use Rattle.rules.specs.Desk.{requestFits}
-use Rattle.desk.proofs.Keeping.{entry-named}
+use Rattle.rules.specs.Calls.{requestCall}
+use Rattle.desk.proofs.Taking.{asked-of}
 use borrow.Author.Needs.{needs}
 use Rattle.desk.proofs.request.Statement.{statement}
 use Rattle.desk.proofs.request.Tie as tie
@@ -17,65 +14,25 @@ in-disorder-requires c κs = search needs
 refused-requires : tie.Need-refused-requires
 refused-requires c κs = search needs
 
+asked-requires : tie.Need-asked-requires
+asked-requires c κs = search needs
+
 returns : tie.Need-returns
 unfolding requestCall
 returns c =
-    let a = c .before .before .before .args in
-    let d = a .desk in
-    let o : disorder d ≡ true = cc in
-    rw (c .refused .ensures, o)
+    let o : disorder (c .before .before .before .before .args .desk) ≡ true = cc in
+    rw (c .asked .ensures, c .before .refused .ensures, o)
 
-request-fits-requires : tie.Need-request-fits-requires
-request-fits-requires c κs = search needs
+request-in-order-requires : tie.Need-request-in-order-requires
+request-in-order-requires c κs = cc
 
-with-entry-requires : tie.Need-with-entry-requires
-with-entry-requires c κs = search needs
+asked-requires-2 : tie.Need-asked-requires-2
+asked-requires-2 c κs = search needs
 
 returns-2 : tie.Need-returns-2
-unfolding requestCall
-returns-2 c =
-    let a = c .before .before .before .before .before .before .before .args in
-    let d = a .desk in
-    let o : disorder d ≡ false = cc in
-    let f : requestFits (a .topic) (a .score) ≡ true = cc in
-    let named = entry-named d (in-order d o) (entryAt d (a .topic) (a .id) (a .score)) refl in
-    rw (c .with-entry .ensures, o, f, eq-eqb _ _ (c .before .if3 .taken), named)
-
-refused-requires-2 : tie.Need-refused-requires-2
-refused-requires-2 c κs = search needs
-
-returns-3 : tie.Need-returns-3
-unfolding requestCall
-returns-3 c =
-    let a = c .before .before .before .before .before .before .before .args in
-    let d = a .desk in
-    let o : disorder d ≡ false = cc in
-    let f : requestFits (a .topic) (a .score) ≡ true = cc in
-    rw (c .refused2 .ensures, o, f, ne-eqb _ _ (c .before .if3 .left))
-
-refused-requires-3 : tie.Need-refused-requires-3
-refused-requires-3 c κs = search needs
-
-returns-4 : tie.Need-returns-4
-unfolding requestCall
-returns-4 c =
-    let a = c .before .before .before .before .before .args in
-    let d = a .desk in
-    let o : disorder d ≡ false = cc in
-    let f : requestFits (a .topic) (a .score) ≡ false = cc in
-    rw (c .refused3 .ensures, o, f)
+returns-2 c = let a = c .before .before .before .before .args in rw (c .asked2 .ensures) (asked-of (c .before .request-in-order .result) (requestCall (a .desk) (a .topic) (a .id) (a .score)) (c .before .request-in-order .ensures))
 
 pub request-spec : {M : Type 1} → statement M
 request-spec =
     tie.close
-    (tie.spec
-    in-disorder-requires
-    refused-requires
-    returns
-    request-fits-requires
-    with-entry-requires
-    returns-2
-    refused-requires-2
-    returns-3
-    refused-requires-3
-    returns-4)
+    (tie.spec in-disorder-requires refused-requires asked-requires returns request-in-order-requires asked-requires-2 returns-2)

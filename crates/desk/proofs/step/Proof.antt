@@ -1,12 +1,9 @@
--- Each answer is by the first rule that is given; a step that moves the clock writes the blocks and keeps what the rule names.
-use Rattle.desk.proofs.Keeping.{moves, not-back}
+-- 99, or the step on a desk in order.
 use mathlib.Core.Path.{_≡_}
-use mathlib.Core.Bool.{true, false}
-use native.Mathlib.Omega.{arith}
-use borrow.Author.Tests.{lt-ltb, le-ltb, eq-eqb, ne-eqb, lt-leb, le-leb}
+use mathlib.Core.Bool.{true}
 use Rattle.rules.specs.Refusals.{disorder}
-use Rattle.rules.proofs.Refusing.{in-order}
 use Rattle.rules.specs.Calls.{stepCall}
+use Rattle.desk.proofs.Taking.{stepped-of}
 use borrow.Author.Needs.{needs}
 use Rattle.desk.proofs.step.Statement.{statement}
 use Rattle.desk.proofs.step.Tie as tie
@@ -14,118 +11,41 @@ use Rattle.desk.proofs.step.Tie as tie
 in-disorder-requires : tie.Need-in-disorder-requires
 in-disorder-requires c κs = search needs
 
-denied-requires : tie.Need-denied-requires
-denied-requires c κs = search needs
+refused-requires : tie.Need-refused-requires
+refused-requires c κs = search needs
+
+stepped-requires : tie.Need-stepped-requires
+stepped-requires c κs = search needs
 
 returns : tie.Need-returns
 unfolding stepCall
 returns c =
-    let a = c .before .before .before .before .args in
-    let d = a .desk in
-    let o : disorder d ≡ true = cc in
-    rw (c .denied .ensures, o)
+    let o : disorder (c .before .before .before .before .before .args .desk) ≡ true = cc in
+    rw (c .stepped .ensures, c .before .refused .ensures, o)
 
-denied-requires-2 : tie.Need-denied-requires-2
-denied-requires-2 c κs = search needs
+step-in-order-requires : tie.Need-step-in-order-requires
+step-in-order-requires c κs = cc
 
-returns-2 : tie.Need-returns-2
-unfolding stepCall
-returns-2 c =
-    let a = c .before .before .before .before .before .args in
-    let d = a .desk in
-    let o : disorder d ≡ false = cc in
-    rw (c .denied2 .ensures, o, lt-leb _ _ (c .before .if2 .taken))
-
-denied-requires-3 : tie.Need-denied-requires-3
-denied-requires-3 c κs = search needs
-
-returns-3 : tie.Need-returns-3
-unfolding stepCall
-returns-3 c =
-    let a = c .before .before .before .before .before .before .before .args in
-    let d = a .desk in
-    let o : disorder d ≡ false = cc in
-    rw (c .denied3 .ensures, o, le-leb _ _ (c .before .before .before .if2 .left), ne-eqb _ _ (c .before .if3 .taken))
-
-denied-requires-4 : tie.Need-denied-requires-4
-denied-requires-4 c κs = search needs
-
-returns-4 : tie.Need-returns-4
-unfolding stepCall
-returns-4 c =
-    let a = c .before .before .before .before .before .before .before .before .args in
-    let d = a .desk in
-    let o : disorder d ≡ false = cc in
-    rw (c .denied4 .ensures, o, le-leb _ _ (c .before .before .before .before .if2 .left), eq-eqb _ _ (c .before .before .if3 .left), lt-ltb _ _ (c .before .if4 .taken))
-
-reply-need-requires : tie.Need-reply-need-requires
-reply-need-requires c κs = search needs
-
-denied-requires-5 : tie.Need-denied-requires-5
-denied-requires-5 c κs = search needs
-
-returns-5 : tie.Need-returns-5
-unfolding stepCall
-returns-5 c =
-    let a = c .before .before .before .before .before .before .before .before .before .before .args in
-    let d = a .desk in
-    let o : disorder d ≡ false = cc in
-    let short = rw (c .before .before .reply-need .ensures) at (c .before .if5 .taken) in
-    rw (c .denied5 .ensures, o, le-leb _ _ (c .before .before .before .before .before .before .if2 .left), eq-eqb _ _ (c .before .before .before .before .if3 .left), le-ltb _ _ (c .before .before .before .if4 .left), lt-ltb _ _ short)
-
-returns-6 : tie.Need-returns-6
-unfolding stepCall
-returns-6 c =
-    let a = c .before .before .before .before .before .before .before .before .before .before .args in
-    let d = a .desk in
-    let o : disorder d ≡ false = cc in
-    let long = rw (c .before .before .reply-need .ensures) at (c .before .if5 .left) in
-    rw (o, le-leb _ _ (c .before .before .before .before .before .before .if2 .left), eq-eqb _ _ (c .before .before .before .before .if3 .left), le-ltb _ _ (c .before .before .before .if4 .left), le-ltb _ _ long, eq-eqb _ _ (c .if6 .taken))
-
-reached-requires : tie.Need-reached-requires
-reached-requires c κs =
-    let a = c .before .before .before .before .before .before .before .before .before .before .args in
-    let d = a .desk in
-    let o : disorder d ≡ false = cc in
-    in-order d o .few
-
-move-on-requires : tie.Need-move-on-requires
-move-on-requires c κs = search needs
+stepped-requires-2 : tie.Need-stepped-requires-2
+stepped-requires-2 c κs = search needs
 
 same-length : tie.Need-same-length
 same-length c = search needs
 
-returns-7 : tie.Need-returns-7
-unfolding stepCall
-returns-7 c =
-    let a = c .before .before .before .before .before .before .before .before .before .before .before .before .before .before .before .args in
-    let d = a .desk in
-    let o : disorder d ≡ false = cc in
-    let t = c .before .before .before .before .before in
-    let long = rw (t .before .before .reply-need .ensures) at (t .before .if5 .left) in
-    let at = c .before .before .before .before .reached .ensures in
-    let e = c .before .before .move-on .ensures in
-    let back = not-back d (in-order d o) (a .target) (omega arith) (omega arith) in
-    rw (e .0, e .1, at, moves d (in-order d o) _ _ back long, o, le-leb _ _ (t .before .before .before .before .before .before .if2 .left), eq-eqb _ _ (t .before .before .before .before .if3 .left), le-ltb _ _ (t .before .before .before .if4 .left), le-ltb _ _ long, ne-eqb _ _ (t .if6 .left))
+returns-2 : tie.Need-returns-2
+returns-2 c =
+    let a = c .before .before .before .before .before .before .before .before .args in
+    rw (c .stepped2 .ensures) (stepped-of (c .before .before .before .step-in-order .result) _ (stepCall (a .desk) (a .target) (a .reply .now)) (c .before .before .before .step-in-order .ensures))
 
 pub step-spec : {M : Type 1} → statement M
 step-spec =
     tie.close
     (tie.spec
     in-disorder-requires
-    denied-requires
+    refused-requires
+    stepped-requires
     returns
-    denied-requires-2
-    returns-2
-    denied-requires-3
-    returns-3
-    denied-requires-4
-    returns-4
-    reply-need-requires
-    denied-requires-5
-    returns-5
-    returns-6
-    reached-requires
-    move-on-requires
+    step-in-order-requires
+    stepped-requires-2
     same-length
-    returns-7)
+    returns-2)

@@ -18,7 +18,7 @@ same-length c = search needs
 returns : tie.Need-returns
 returns c =
     let e = c .before .before .before .before .take .ensures in
-    (c .as-numbers .ensures ∙ ap (λ (o : MessageOutcome). replied (o .reply)) e, ap (λ (o : MessageOutcome). o .desk) e, ap (λ (o : MessageOutcome). o .slice) e)
+    (c .before .as-numbers .ensures ∙ ap (λ (o : MessageOutcome). replied (o .reply)) e, ap (λ (o : MessageOutcome). o .desk) e, ap (λ (o : MessageOutcome). o .slice) e)
 
 pub take-from-spec : {M : Type 1} → statement M
 take-from-spec = tie.close (tie.spec take-requires as-numbers-requires same-length returns)
