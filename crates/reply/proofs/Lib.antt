@@ -1,3 +1,2 @@
 pub mod Blocks
 pub mod Filling
-pub mod Showing

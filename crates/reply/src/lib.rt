@@ -5,7 +5,7 @@ ghost use Prim.Native.Nat.{_+_, _*_, _≤_, min};
 ghost use lib.ListN.{length};
 ghost use Rattle.rules.specs.Desk.{loaded, listed};
 ghost use Rattle.rules.specs.Refusals.{replyNeed};
-ghost use Rattle.rules.specs.Calls.{entryWords, blocks, written};
+ghost use Rattle.rules.specs.Calls.{entryWords, block, shownAt, blocks, written};
 ghost use Rattle.reply.specs.Written.{wrote, blocksInto, allWritten};
 use rules::Board;
 use rules::Desk;
@@ -50,22 +50,39 @@ fn write_entry(reply: &mut [u32], e: Entry)
     reply[2] = e.tick;
 }
 
-// The two words at a block's front: its board's number, and how many entries follow.
-fn write_head(reply: &mut [u32], number: u32, shown: u32)
-    requires { ⌜ 2 ≤ length (now reply) ⌝ }
-    ensures { λ _. ⌜ now (reply .exit) ≡ written (number ∷ shown ∷ []) (now (reply .entry)) ⌝ }
+// A board's block, and how many words it has. The count is known last, so the two words at the front are stored last.
+fn write_block(desk: Desk, number: u32, board: Board, at: u32, reply: &mut [u32]) -> usize
+    requires { ⌜ (desk .len ≤ 1024) × (2 + 3 * board .k ≤ length (now reply)) ⌝ }
+    ensures { λ r. ⌜ (r ≡ length (block number (shownAt board at (listed desk)))) × (now (reply .exit) ≡ written (block number (shownAt board at (listed desk))) (now (reply .entry))) ⌝ }
 {
+    let len = desk.len;
+    let k = board.k;
+    let mut shown: u32 = 0;
+    let mut next: usize = 2;
+    let mut i: usize = 0;
+    while i < len {
+        if shown == k {
+            break;
+        }
+        let e = desk.entries[i];
+        if rules::in_window(board, at, e) {
+            write_entry(&mut reply[next..], e);
+            next += 3;
+            shown += 1;
+        }
+        i += 1;
+    }
     reply[0] = number;
     reply[1] = shown;
+    next
 }
 
-// Each due board's block is written into what remains of the reply. The count is known last, so a block's head is written last.
+// Each due board's block is written into what remains of the reply.
 fn write_due(desk: Desk, at: u32, reply: &mut [u32]) -> Wrote
     requires { ⌜ (desk .count ≤ 32) × (desk .len ≤ 1024) × (replyNeed (loaded desk) ≤ length (now reply)) ⌝ }
     ensures { λ r. ⌜ (r ≡ allWritten desk at) × (now (reply .exit) ≡ written (blocks 0 (loaded desk) at (listed desk)) (now (reply .entry))) ⌝ }
 {
     let count = desk.count;
-    let len = desk.len;
     let mut due: usize = 0;
     let mut next: usize = 0;
     let mut i: usize = 0;
@@ -73,24 +90,7 @@ fn write_due(desk: Desk, at: u32, reply: &mut [u32]) -> Wrote
         let board = desk.boards[i];
         if rules::is_moment(board, at) {
             let number = i as u32;
-            let k = board.k;
-            let front = next;
-            let mut shown: u32 = 0;
-            let mut j: usize = 0;
-            next += 2;
-            while j < len {
-                if shown == k {
-                    break;
-                }
-                let e = desk.entries[j];
-                if rules::in_window(board, at, e) {
-                    write_entry(&mut reply[next..], e);
-                    next += 3;
-                    shown += 1;
-                }
-                j += 1;
-            }
-            write_head(&mut reply[front..], number, shown);
+            next += write_block(desk, number, board, at, &mut reply[next..]);
             due += 1;
         }
         i += 1;
