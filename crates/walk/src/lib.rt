@@ -14,7 +14,7 @@ ghost use Rattle.lists.specs.Marks.{noted};
 ghost use Rattle.rules.specs.Desk.{names};
 ghost use Rattle.rules.specs.Moments.{moment as momentOf, upto};
 ghost use Rattle.rules.specs.Cells.{cells};
-ghost use Rattle.walk.specs.Walk.{sumCells, walkable, Walkable, walkedTo, thinnedTo, withEntry};
+ghost use Rattle.walk.specs.Walk.{sumCells, walkable, walkedTo, thinnedTo, withEntry};
 ghost use Rattle.walk.specs.Line.{metAt, bitOf, namedBits, spots};
 ghost use Rattle.walk.specs.Edges.{viewsFrom, boardViews, Numbered, holding, never, edge as edgeOf};
 
@@ -256,11 +256,16 @@ fn wide(place: u16) -> usize
 }
 
 // The walk over the list and the new entries that wait, one or none. They stand in line by their places, ticks and bits, columns that can be lent; each
-// board marks what it shows of them; and what has a mark is kept. Both loops stand here, for a function over the list would copy it.
+// board marks what it shows of them; and what has a mark is kept. A desk that the walk cannot hold stays as it stands. Both loops stand here, for a function
+// over the list would copy it.
 fn walk(desk: Desk, clock: u32, new: Entry, waiting: usize) -> Desk
-    requires { ⌜ Walkable desk × (waiting ≤ 1) ⌝ }
-    ensures { λ r. ⌜ r ≡ walkedTo desk clock new waiting ⌝ }
+    requires { ⌜ waiting ≤ 1 ⌝ }
+    ensures { λ r. ⌜ r ≡ cond (walkable desk) (walkedTo desk clock new waiting) desk ⌝ }
 {
+    let fits = is_walkable(desk);
+    if !fits {
+        return desk;
+    }
     let phase = desk.time.phase;
     let boards = desk.boards;
     let count = desk.count;
@@ -319,17 +324,6 @@ fn walk(desk: Desk, clock: u32, new: Entry, waiting: usize) -> Desk
     }
 }
 
-// A desk that the walk cannot hold stays as it stands.
-fn walked(desk: Desk, clock: u32, new: Entry, waiting: usize) -> Desk
-    requires { ⌜ waiting ≤ 1 ⌝ }
-    ensures { λ r. ⌜ r ≡ cond (walkable desk) (walkedTo desk clock new waiting) desk ⌝ }
-{
-    if is_walkable(desk) {
-        return walk(desk, clock, new, waiting);
-    }
-    desk
-}
-
 // The list after a step to this clock.
 pub fn thinned(desk: Desk, clock: u32) -> Desk
     ensures { λ r. ⌜ r ≡ thinnedTo desk clock ⌝ }
@@ -340,12 +334,12 @@ pub fn thinned(desk: Desk, clock: u32) -> Desk
         tick: 0,
         topic: 0,
     };
-    walked(desk, clock, none, 0)
+    walk(desk, clock, none, 0)
 }
 
 // The list after a request at the desk's clock.
 pub fn with_entry(desk: Desk, e: Entry) -> Desk
     ensures { λ r. ⌜ r ≡ withEntry desk e ⌝ }
 {
-    walked(desk, desk.time.clock, e, 1)
+    walk(desk, desk.time.clock, e, 1)
 }

@@ -4,12 +4,12 @@ use borrow.Author.Needs.{needs}
 use Rattle.walk.proofs.with_entry.Statement.{statement}
 use Rattle.walk.proofs.with_entry.Tie as tie
 
-walked-requires : tie.Need-walked-requires
-walked-requires c κs = search needs
+walk-requires : tie.Need-walk-requires
+walk-requires c κs = search needs
 
 returns : tie.Need-returns
 unfolding withEntry
-returns c = c .walked .ensures
+returns c = c .walk .ensures
 
 pub with-entry-spec : {M : Type 1} → statement M
-with-entry-spec = tie.close (tie.spec walked-requires returns)
+with-entry-spec = tie.close (tie.spec walk-requires returns)
