@@ -25,7 +25,7 @@ use Rattle.rules.proofs.Stepping.{reached-from}
 use Rattle.rules.proofs.Nesting.{named-cells}
 use Rattle.reply.specs.Written.{writable, wrote, blocksInto}
 use Rattle.desk.specs.Outcomes.{taken, movedBy}
-use Rattle.walk.specs.Walk.{sumCells, walkable, thinnedTo, withEntry}
+use Rattle.walk.specs.Walk.{sumCells, holdable, walkable, thinnedTo, withEntry}
 
 -- k is at least 1
 cells-need : (bs : List Board) → all boardFits bs ≡ true → sumCells bs ≤ needs bs
@@ -38,7 +38,7 @@ cells-need (b ∷ bs) e =
 
 module _ (d : Desk) (o : InOrder d) where
   walks : walkable d ≡ true
-  unfolding walkable
+  unfolding holdable
   walks =
       rw (
         le-leb (d .count) 32 (o .few),

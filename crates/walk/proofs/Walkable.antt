@@ -1,4 +1,4 @@
--- A desk that the walk can hold, as a test and as facts.
+-- What the walk can hold, as a test and as facts.
 use mathlib.Core.Path.{_≡_, refl, sym}
 use mathlib.Core.List.{List}
 use mathlib.Core.Bool.{true, false, and-eq-true-iff}
@@ -10,23 +10,23 @@ use Rattle.lists.proofs.Turns.{turn, turned}
 use Rattle.rules.specs.Desk.{need, needs, noBoard}
 use Rattle.rules.specs.Cells.{cells}
 use Rattle.rules.specs.declared.Board.{Board}
-use Rattle.rules.specs.declared.Desk.{Desk}
-use Rattle.walk.specs.Walk.{sumCells, walkable, Walkable}
+use Rattle.walk.specs.Walk.{sumCells, holdable, Holdable}
 
-pub facts : (d : Desk) → walkable d ≡ true → Walkable d
-unfolding walkable
-facts d e =
-    let h = and-eq-true-iff _ _ .0 e in
-    let k = and-eq-true-iff _ _ .0 (h .0) in
-    let m = and-eq-true-iff _ _ .0 (k .0) in
-    record { few = leb-true _ _ (m .0); cells = leb-true _ _ (m .1); needs = leb-true _ _ (k .1); short = leb-true _ _ (h .1) }
+module _ (bs : List Board) (count len : ℕ) where
+  pub facts : holdable bs count len ≡ true → Holdable bs count len
+  unfolding holdable
+  facts e =
+      let h = and-eq-true-iff _ _ .0 e in
+      let k = and-eq-true-iff _ _ .0 (h .0) in
+      let m = and-eq-true-iff _ _ .0 (k .0) in
+      record { few = leb-true _ _ (m .0); cells = leb-true _ _ (m .1); needs = leb-true _ _ (k .1); short = leb-true _ _ (h .1) }
 
-pub holds : (d : Desk) → Walkable d → true ≡ walkable d
-unfolding walkable
-holds d w = sym (rw (le-leb _ _ (w .few), le-leb _ _ (w .cells), le-leb _ _ (w .needs), le-leb _ _ (w .short)))
+  pub holds : Holdable bs count len → true ≡ holdable bs count len
+  unfolding holdable
+  holds w = sym (rw (le-leb _ _ (w .few), le-leb _ _ (w .cells), le-leb _ _ (w .needs), le-leb _ _ (w .short)))
 
-pub fails : (d : Desk) → (Walkable d → ⊥) → false ≡ walkable d
-fails d f = sym (untrue (walkable d) (λ e. f (facts d e)))
+  pub fails : (Holdable bs count len → ⊥) → false ≡ holdable bs count len
+  fails f = sym (untrue (holdable bs count len) (λ e. f (facts e)))
 
 -- The sums of the boards from number i on
 

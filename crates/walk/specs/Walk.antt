@@ -17,15 +17,18 @@ sumCells [] = 0
 sumCells (b ∷ bs) = cells b + sumCells bs
 
 -- what the walk can hold: 32 boards, 1,024 cells and needs, 1,024 places
-unfoldable pub walkable : Desk → Bool
-walkable d = leb (d .count) 32 && leb (sumCells (loaded d)) 1024 && leb (needs (loaded d)) 1024 && leb (d .len) 1024
+unfoldable pub holdable : List Board → ℕ → ℕ → Bool
+holdable bs count len = leb count 32 && leb (sumCells bs) 1024 && leb (needs bs) 1024 && leb len 1024
 
 -- the same as facts
-pub record Walkable (d : Desk) : Type 0 where
-  pub few : d .count ≤ 32
-  pub cells : sumCells (loaded d) ≤ 1024
-  pub needs : needs (loaded d) ≤ 1024
-  pub short : d .len ≤ 1024
+pub record Holdable (bs : List Board) (count len : ℕ) : Type 0 where
+  pub few : count ≤ 32
+  pub cells : sumCells bs ≤ 1024
+  pub needs : needs bs ≤ 1024
+  pub short : len ≤ 1024
+
+abbrev pub walkable : Desk → Bool
+walkable d = holdable (loaded d) (d .count) (d .len)
 
 unfoldable pub thinnedTo : Desk → ℕ → Desk
 thinnedTo d n = cond (walkable d) (withList d n (sift (cellViews (loaded d) n) (listed d))) d

@@ -14,7 +14,7 @@ ghost use Rattle.lists.specs.Marks.{noted};
 ghost use Rattle.rules.specs.Desk.{names};
 ghost use Rattle.rules.specs.Moments.{moment as momentOf, upto};
 ghost use Rattle.rules.specs.Cells.{cells};
-ghost use Rattle.walk.specs.Walk.{sumCells, walkable, walkedTo, thinnedTo, withEntry};
+ghost use Rattle.walk.specs.Walk.{sumCells, holdable, walkable, walkedTo, thinnedTo, withEntry};
 ghost use Rattle.walk.specs.Line.{metAt, bitOf, namedBits, spots};
 ghost use Rattle.walk.specs.Edges.{viewsFrom, boardViews, Numbered, holding, never, edge as edgeOf};
 
@@ -27,15 +27,13 @@ struct Met {
 }
 
 // Each sum is tested before it grows, so none passes 1,024 and none wraps.
-fn is_walkable(desk: Desk) -> bool
-    ensures { λ r. ⌜ r ≡ walkable desk ⌝ }
+fn is_holdable(boards: [Board; 32], count: usize, len: usize) -> bool
+    ensures { λ r. ⌜ r ≡ holdable (take count boards) count len ⌝ }
 {
-    let boards = desk.boards;
-    let count = desk.count;
     if 32 < count {
         return false;
     }
-    if 1024 < desk.len {
+    if 1024 < len {
         return false;
     }
     let mut cells: usize = 0;
@@ -262,14 +260,14 @@ fn walk(desk: Desk, clock: u32, new: Entry, waiting: usize) -> Desk
     requires { ⌜ waiting ≤ 1 ⌝ }
     ensures { λ r. ⌜ r ≡ cond (walkable desk) (walkedTo desk clock new waiting) desk ⌝ }
 {
-    let fits = is_walkable(desk);
+    let boards = desk.boards;
+    let count = desk.count;
+    let len = desk.len;
+    let fits = is_holdable(boards, count, len);
     if !fits {
         return desk;
     }
     let phase = desk.time.phase;
-    let boards = desk.boards;
-    let count = desk.count;
-    let len = desk.len;
     let none = Entry {
         id: 0,
         score: 0,

@@ -14,7 +14,7 @@ use Rattle.rules.specs.Cells.{cellViews}
 use Rattle.rules.specs.declared.Entry.{Entry}
 use Rattle.walk.specs.Walk.{arrived}
 use Rattle.walk.specs.Line.{entryAt}
-use Rattle.walk.specs.Walk.{Walkable}
+use Rattle.walk.specs.Walk.{Holdable}
 use Rattle.walk.proofs.Walkable.{facts}
 use Rattle.walk.proofs.Lining.{Next, next, lined, Arriving, Clearing, cleared-on, cleared, begins, place, arrives, all-in, in-line, lined-length, lined-at}
 use Rattle.walk.proofs.Keeping as Kept
@@ -23,17 +23,17 @@ use Rattle.walk.proofs.walk.Statement.{statement}
 use Rattle.walk.proofs.walk.Tie as tie
 
 abbrev Inv-loop : tie.InvT-loop
-Inv-loop clock new waiting desk fits phase boards count len none entries₀ places₀ ticks₀ bits₀ at₀ waits₀ total₀ entries places ticks bits at waits total =
+Inv-loop clock new waiting desk boards count len fits phase none entries₀ places₀ ticks₀ bits₀ at₀ waits₀ total₀ entries places ticks bits at waits total =
     Arriving (desk .entries) len new waiting places ticks bits at waits total × Clearing (desk .entries) len entries at
 
 abbrev μ-loop : tie.MeasureT-loop
-μ-loop clock new waiting desk fits phase boards count len none entries₀ places₀ ticks₀ bits₀ at₀ waits₀ total₀ entries places ticks bits at waits total = len + waits - at
+μ-loop clock new waiting desk boards count len fits phase none entries₀ places₀ ticks₀ bits₀ at₀ waits₀ total₀ entries places ticks bits at waits total = len + waits - at
 
 abbrev Inv-loop2 : tie.InvT-loop2
-Inv-loop2 clock new waiting desk fits phase boards count len entries₀ places at waits total marks kept₀ i₀ entries kept i = Keeping marks (lined (desk .entries) len new total places) entries₀ entries i kept
+Inv-loop2 clock new waiting desk boards count len fits phase entries₀ places at waits total marks kept₀ i₀ entries kept i = Keeping marks (lined (desk .entries) len new total places) entries₀ entries i kept
 
 abbrev μ-loop2 : tie.MeasureT-loop2
-μ-loop2 clock new waiting desk fits phase boards count len entries₀ places at waits total marks kept₀ i₀ entries kept i = total - i
+μ-loop2 clock new waiting desk boards count len fits phase entries₀ places at waits total marks kept₀ i₀ entries kept i = total - i
 
 -- The line
 
@@ -43,22 +43,22 @@ opposite false e = ap not e
 
 -- the test that the desk passed
 abbrev passed : tie.At-loop Inv-loop μ-loop Inv-loop2 μ-loop2 → tie.Else1 Inv-loop μ-loop Inv-loop2 μ-loop2
-passed s = s .before .before .before
+passed s = s .before .before
 
 abbrev given : tie.At-loop Inv-loop μ-loop Inv-loop2 μ-loop2 → tie.Start Inv-loop μ-loop Inv-loop2 μ-loop2
-given s = passed s .before .before
+given s = passed s .before .before .before
 
-fits : (e : tie.Else1 Inv-loop μ-loop Inv-loop2 μ-loop2) → Walkable (e .before .before .args .t1)
-fits e = facts _ (sym (e .before .is-walkable .ensures) ∙ opposite _ (e .if1 .left))
+fits : (e : tie.Else1 Inv-loop μ-loop Inv-loop2 μ-loop2) → let d = e .before .before .before .args .t1 in Holdable (take (d .count) (d .boards)) (d .count) (d .len)
+fits e = facts _ _ _ (sym (e .before .is-holdable .ensures) ∙ opposite _ (e .if1 .left))
 
 all-entries : (b : tie.Start Inv-loop μ-loop Inv-loop2 μ-loop2) → length (b .args .t1 .entries) ≡ 1024
 all-entries b = sym (length-map (b .args .t1 .entries) _) ∙ b .good .0 .1 .1 .1 .1 .1 .1 .0 .1 .0 .1
 
-full : (e : tie.Else1 Inv-loop μ-loop Inv-loop2 μ-loop2) → let a = e .before .before .args in a .t1 .len ≤ length (a .t1 .entries)
-full e = omega (arith, all-entries (e .before .before), fits e .short)
+full : (e : tie.Else1 Inv-loop μ-loop Inv-loop2 μ-loop2) → let a = e .before .before .before .args in a .t1 .len ≤ length (a .t1 .entries)
+full e = omega (arith, all-entries (e .before .before .before), fits e .short)
 
-short : (e : tie.Else1 Inv-loop μ-loop Inv-loop2 μ-loop2) → let a = e .before .before .args in a .t1 .len + a .waiting ≤ 1025
-short e = omega (arith, fits e .short, e .before .before .pre)
+short : (e : tie.Else1 Inv-loop μ-loop Inv-loop2 μ-loop2) → let a = e .before .before .before .args in a .t1 .len + a .waiting ≤ 1025
+short e = omega (arith, fits e .short, e .before .before .before .pre)
 
 -- what the line takes next
 met : (m : tie.After-meet Inv-loop μ-loop Inv-loop2 μ-loop2) →
@@ -123,11 +123,11 @@ room t =
     let s = t .before .before in
     Kept.place (s .loop2 .inv) (omega (arith, all-places s, t .before .loop2-test .taken)) (omega (arith, in-marks s, t .before .loop2-test .taken)) (enough s) (t .if3 .taken)
 
-is-walkable-requires : tie.Need-is-walkable-requires Inv-loop μ-loop Inv-loop2 μ-loop2
-is-walkable-requires c κs = search needs
+is-holdable-requires : tie.Need-is-holdable-requires Inv-loop μ-loop Inv-loop2 μ-loop2
+is-holdable-requires c κs = search needs
 
 returns : tie.Need-returns Inv-loop μ-loop Inv-loop2 μ-loop2
-returns c = rw (sym (c .before .is-walkable .ensures) ∙ opposite _ (c .if1 .taken))
+returns c = rw (sym (c .before .is-holdable .ensures) ∙ opposite _ (c .if1 .taken))
 
 loop-holds : tie.Need-loop-holds Inv-loop μ-loop Inv-loop2 μ-loop2
 loop-holds c =
@@ -255,7 +255,7 @@ returns-2 c =
     let a = given (stopped s) .args in
     let r = kept-all (s .loop2 .inv) (a .t1 .len) (a .t1 .entries) (cleared (stopped s .loop .inv .1) (ended s)) (omega (arith, all-places s, c .loop2-test .left)) in
     let e = passed (stopped s) in
-    rw (sym (e .before .is-walkable .ensures) ∙ opposite _ (e .if1 .left)) (rw (← all s, ← r .0, ← r .1))
+    rw (sym (e .before .is-holdable .ensures) ∙ opposite _ (e .if1 .left)) (rw (← all s, ← r .0, ← r .1))
 
 pub walk-spec : {M : Type 1} → statement M
 walk-spec =
@@ -265,7 +265,7 @@ walk-spec =
     μ-loop
     Inv-loop2
     μ-loop2
-    is-walkable-requires
+    is-holdable-requires
     returns
     loop-holds
     add-loop

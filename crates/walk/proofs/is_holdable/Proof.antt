@@ -1,17 +1,17 @@
 -- The sums so far and those of the boards left make the whole, so a sum that passes 1,024 stays above it.
-use mathlib.Core.Path.{_≡_, sym, _∙_}
+use mathlib.Core.Path.{_≡_}
 use Prim.Native.Nat.{_+_, _-_, _≤_}
 use native.Mathlib.Omega.{arith}
-use lib.ListN.{length, take, drop, length-map}
+use borrow.Author.Needs.{needs}
+use lib.ListN.{length, take, drop}
 use Rattle.rules.specs.Desk.{needs as needsOf}
-use Rattle.rules.specs.declared.Desk.{Desk}
 use Rattle.walk.specs.Walk.{sumCells}
 use Rattle.walk.proofs.Walkable.{holds, fails, cells-rest, needs-rest, none-rest}
-use Rattle.walk.proofs.is_walkable.Statement.{statement}
-use Rattle.walk.proofs.is_walkable.Tie as tie
+use Rattle.walk.proofs.is_holdable.Statement.{statement}
+use Rattle.walk.proofs.is_holdable.Tie as tie
 
 abbrev Inv-loop : tie.InvT-loop
-Inv-loop boards count cells₀ needs₀ b₀ cells needs b =
+Inv-loop count len boards cells₀ needs₀ b₀ cells needs b =
     (b ≤ count)
     × (cells ≤ 1024)
     × (needs ≤ 1024)
@@ -19,22 +19,21 @@ Inv-loop boards count cells₀ needs₀ b₀ cells needs b =
     × (needsOf (take count boards) ≡ needs + needsOf (drop b (take count boards)))
 
 abbrev μ-loop : tie.MeasureT-loop
-μ-loop boards count cells₀ needs₀ b₀ cells needs b = count - b
+μ-loop count len boards cells₀ needs₀ b₀ cells needs b = count - b
 
-full : (c : tie.Start Inv-loop μ-loop) → length (c .args .desk .boards) ≡ 32
-full c = sym (length-map (c .args .desk .boards) _) ∙ c .good .0 .1 .1 .1 .1 .0 .1 .0 .1
+abbrev given : tie.At-loop Inv-loop μ-loop → tie.Start Inv-loop μ-loop
+given c = c .before .before .before
 
-abbrev given : tie.At-loop Inv-loop μ-loop → Desk
-given c = c .before .before .before .before .before .args .desk
-
-few : (c : tie.At-loop Inv-loop μ-loop) → given c .count ≤ length (given c .boards)
-few c = omega (arith, full (c .before .before .before .before .before), c .before .before .before .if1 .left)
+few : (c : tie.At-loop Inv-loop μ-loop) → given c .args .count ≤ length (given c .args .t1)
+few c =
+    let f : length (given c .args .t1) ≡ 32 = search needs in
+    omega (arith, c .before .before .if1 .left)
 
 returns : tie.Need-returns Inv-loop μ-loop
-returns c = fails _ (λ w. omega (arith, w .few))
+returns c = fails _ _ _ (λ w. omega (arith, w .few))
 
 returns-2 : tie.Need-returns-2 Inv-loop μ-loop
-returns-2 c = fails _ (λ w. omega (arith, w .short))
+returns-2 c = fails _ _ _ (λ w. omega (arith, w .short))
 
 loop-holds : tie.Need-loop-holds Inv-loop μ-loop
 loop-holds c = omega arith
@@ -54,8 +53,8 @@ sub-if3 c = omega arith
 returns-3 : tie.Need-returns-3 Inv-loop μ-loop
 returns-3 c =
     let s = c .before .before .before .before in
-    let r = cells-rest (given s .boards) (given s .count) (s .loop .b) (few s) (c .before .before .before .loop-test .taken) in
-    fails _ (λ w. omega (arith, w .cells, r, s .loop .inv .3, c .before .cells .ensures))
+    let r = cells-rest (given s .args .t1) (given s .args .count) (s .loop .b) (few s) (c .before .before .before .loop-test .taken) in
+    fails _ _ _ (λ w. omega (arith, w .cells, r, s .loop .inv .3, c .before .cells .ensures))
 
 need-requires : tie.Need-need-requires Inv-loop μ-loop
 need-requires c κs = tt
@@ -66,8 +65,8 @@ sub-if4 c = omega arith
 returns-4 : tie.Need-returns-4 Inv-loop μ-loop
 returns-4 c =
     let s = c .before .before .before .before .before .before in
-    let r = needs-rest (given s .boards) (given s .count) (s .loop .b) (few s) (c .before .before .before .before .before .loop-test .taken) in
-    fails _ (λ w. omega (arith, w .needs, r, s .loop .inv .4, c .before .need .ensures))
+    let r = needs-rest (given s .args .t1) (given s .args .count) (s .loop .b) (few s) (c .before .before .before .before .before .loop-test .taken) in
+    fails _ _ _ (λ w. omega (arith, w .needs, r, s .loop .inv .4, c .before .need .ensures))
 
 add-cells : tie.Need-add-cells Inv-loop μ-loop
 add-cells c = omega arith
@@ -85,18 +84,18 @@ loop-again : tie.Need-loop-again Inv-loop μ-loop
 loop-again c =
     let s = c .before .before .before .before .before .before in
     let t = c .before .before .before .before .before .loop-test .taken in
-    let r = cells-rest (given s .boards) (given s .count) (s .loop .b) (few s) t in
-    let q = needs-rest (given s .boards) (given s .count) (s .loop .b) (few s) t in
+    let r = cells-rest (given s .args .t1) (given s .args .count) (s .loop .b) (few s) t in
+    let q = needs-rest (given s .args .t1) (given s .args .count) (s .loop .b) (few s) t in
     omega arith
 
 returns-5 : tie.Need-returns-5 Inv-loop μ-loop
 returns-5 c =
     let s = c .before in
-    let r = none-rest (given s .boards) (given s .count) (s .loop .b) (few s) (c .loop-test .left) in
-    holds _ (omega arith)
+    let r = none-rest (given s .args .t1) (given s .args .count) (s .loop .b) (few s) (c .loop-test .left) in
+    holds _ _ _ (omega arith)
 
-pub is-walkable-spec : {M : Type 1} → statement M
-is-walkable-spec =
+pub is-holdable-spec : {M : Type 1} → statement M
+is-holdable-spec =
     tie.close
     (tie.spec
     Inv-loop
