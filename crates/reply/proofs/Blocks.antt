@@ -17,7 +17,7 @@ unfolding entryWords
 words-length [] = refl
 words-length (e ∷ es) = omega (arith, words-length es)
 
-pub block-length : (number : ℕ) (b : Board) (T : ℕ) (es : List Entry) → length (block number (shownAt b T es)) ≤ 2 + 3 * min (b .k) (length es)
+block-length : (number : ℕ) (b : Board) (T : ℕ) (es : List Entry) → length (block number (shownAt b T es)) ≤ 2 + 3 * min (b .k) (length es)
 block-length number b T es =
     omega (arith, words-length (shownAt b T es), length-take (b .k) (those (inWindow b T) es), those-fewer (inWindow b T) es)
 

@@ -1,9 +1,9 @@
 -- A slice that is written from its front: its first words and those still to come make the whole, and what remains is as it stood.
 use mathlib.Core.Path.{_≡_, refl, sym, ap, _∙_}
-use mathlib.Core.List.{List, [], _∷_, _++_, append-assoc, append-nil}
+use mathlib.Core.List.{List, [], _++_, append-assoc, append-nil}
 use Prim.Native.Nat.{ℕ, _+_, _-_, _≤_}
 use native.Mathlib.Omega.{arith}
-use lib.ListN.{length, take, drop, set, length-append, length-drop, drop-of-length-le, take-append-drop}
+use lib.ListN.{length, take, drop, length-append, length-drop, drop-of-length-le, take-append-drop}
 use lib.Seq.{length-take-le, take-all, take-at, drop-at, drop-drop}
 use Rattle.rules.specs.Calls.{written}
 
@@ -14,8 +14,8 @@ pub record Filling (stood reply : List ℕ) (at : ℕ) (rest whole : List ℕ) :
   pub words : take at reply ++ rest ≡ whole
   pub remains : drop at reply ≡ drop at stood
 
-pub start : (at : ℕ) (stood rest : List ℕ) → at ≤ length stood → Filling stood stood at rest (take at stood ++ rest)
-start at stood rest h = record { same = refl; within = h; words = refl; remains = refl }
+pub start : (stood rest : List ℕ) → Filling stood stood 0 rest rest
+start stood rest = record { same = refl; within = omega arith; words = refl; remains = refl }
 
 -- what remains of a slice, lent and written into, comes home
 home : (at : ℕ) (reply words : List ℕ) {part : List ℕ} → part ≡ written words (take (length reply - at) (drop at reply))
@@ -37,14 +37,11 @@ more {stood} {reply} {whole} {part} {at} words rest f h e =
       remains = rw (drop-at _ _ _ n, ← drop-drop (length words) at reply, f .remains, drop-drop (length words) at stood);
     })
 
+pub filled : {stood reply whole : List ℕ} {at : ℕ} → Filling stood reply at [] whole → take at reply ≡ whole
+filled f = rw append-nil at (f .words)
+
 pub full : {stood reply whole : List ℕ} {at : ℕ} → Filling stood reply at [] whole → (at ≡ length whole) × (reply ≡ written whole stood)
 full {stood} {reply} {whole} {at} f =
-    let w : take at reply ≡ whole = rw append-nil at (f .words) in
+    let w = filled f in
     let n : at ≡ length whole = sym (length-take-le at reply (f .within)) ∙ ap length w in
     (n, sym (take-append-drop at reply) ∙ rw (w, f .remains, n))
-
--- the two words at the front are written last
-pub headed : (a b : ℕ) (stood words : List ℕ) → 2 ≤ length stood → set (set (written (take 2 stood ++ words) stood) 0 a) 1 b ≡ written (a ∷ b ∷ words) stood
-headed a b [] words h = absurd (omega arith)
-headed a b (x ∷ []) words h = absurd (omega arith)
-headed a b (x ∷ y ∷ l) words h = refl

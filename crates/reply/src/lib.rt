@@ -5,9 +5,8 @@ ghost use Prim.Native.Nat.{_+_, _*_, _≤_, min};
 ghost use lib.ListN.{length};
 ghost use Rattle.rules.specs.Desk.{loaded, listed};
 ghost use Rattle.rules.specs.Refusals.{replyNeed};
-ghost use Rattle.rules.specs.Calls.{entryWords, block, shownAt, blocks, written};
+ghost use Rattle.rules.specs.Calls.{entryWords, blocks, written};
 ghost use Rattle.reply.specs.Written.{wrote, blocksInto, allWritten};
-use rules::Board;
 use rules::Desk;
 use rules::Entry;
 
@@ -41,48 +40,37 @@ pub fn reply_need(desk: Desk) -> usize
 }
 
 // An entry: its id, score and tick.
-fn write_entry(reply: &mut [u32], e: Entry)
-    requires { ⌜ 3 ≤ length (now reply) ⌝ }
-    ensures { λ _. ⌜ now (reply .exit) ≡ written (entryWords (e ∷ [])) (now (reply .entry)) ⌝ }
+fn write_entry(words: &mut [u32], e: Entry)
+    requires { ⌜ 3 ≤ length (now words) ⌝ }
+    ensures { λ _. ⌜ now (words .exit) ≡ written (entryWords (e ∷ [])) (now (words .entry)) ⌝ }
 {
-    reply[0] = e.id;
-    reply[1] = e.score;
-    reply[2] = e.tick;
+    words[0] = e.id;
+    words[1] = e.score;
+    words[2] = e.tick;
 }
 
-// A board's block, and how many words it has. The count is known last, so the two words at the front are stored last.
-fn write_block(desk: Desk, number: u32, board: Board, at: u32, reply: &mut [u32]) -> usize
-    requires { ⌜ (desk .len ≤ 1024) × (2 + 3 * board .k ≤ length (now reply)) ⌝ }
-    ensures { λ r. ⌜ (r ≡ length (block number (shownAt board at (listed desk)))) × (now (reply .exit) ≡ written (block number (shownAt board at (listed desk))) (now (reply .entry))) ⌝ }
+// A board's block, and how many words it has: its number, how many entries it shows, and their words.
+fn write_block(number: u32, shown: u32, words: &[u32], reply: &mut [u32]) -> usize
+    requires { ⌜ 2 + length (now words) ≤ length (now reply) ⌝ }
+    ensures { λ r. ⌜ (r ≡ 2 + length (now (words .entry))) × (now (reply .exit) ≡ written (number ∷ shown ∷ now (words .entry)) (now (reply .entry))) ⌝ }
 {
-    let len = desk.len;
-    let k = board.k;
-    let mut shown: u32 = 0;
-    let mut next: usize = 2;
-    let mut i: usize = 0;
-    while i < len {
-        if shown == k {
-            break;
-        }
-        let e = desk.entries[i];
-        if rules::in_window(board, at, e) {
-            write_entry(&mut reply[next..], e);
-            next += 3;
-            shown += 1;
-        }
-        i += 1;
-    }
     reply[0] = number;
     reply[1] = shown;
-    next
+    for i in 0..words.len() {
+        reply[2 + i] = words[i];
+    }
+    2 + words.len()
 }
 
-// Each due board's block is written into what remains of the reply.
+// Each due board's block is written into what remains of the reply. The words of its entries are gathered first, three for each:
+// a writer that was handed the list instead would be handed a copy of it for each due board.
 fn write_due(desk: Desk, at: u32, reply: &mut [u32]) -> Wrote
     requires { ⌜ (desk .count ≤ 32) × (desk .len ≤ 1024) × (replyNeed (loaded desk) ≤ length (now reply)) ⌝ }
     ensures { λ r. ⌜ (r ≡ allWritten desk at) × (now (reply .exit) ≡ written (blocks 0 (loaded desk) at (listed desk)) (now (reply .entry))) ⌝ }
 {
     let count = desk.count;
+    let len = desk.len;
+    let mut gathered = [0u32; 3 * 1024];
     let mut due: usize = 0;
     let mut next: usize = 0;
     let mut i: usize = 0;
@@ -90,7 +78,23 @@ fn write_due(desk: Desk, at: u32, reply: &mut [u32]) -> Wrote
         let board = desk.boards[i];
         if rules::is_moment(board, at) {
             let number = i as u32;
-            next += write_block(desk, number, board, at, &mut reply[next..]);
+            let k = board.k;
+            let mut shown: u32 = 0;
+            let mut end: usize = 0;
+            let mut j: usize = 0;
+            while j < len {
+                if shown == k {
+                    break;
+                }
+                let e = desk.entries[j];
+                if rules::in_window(board, at, e) {
+                    write_entry(&mut gathered[end..], e);
+                    end += 3;
+                    shown += 1;
+                }
+                j += 1;
+            }
+            next += write_block(number, shown, &gathered[..end], &mut reply[next..]);
             due += 1;
         }
         i += 1;
