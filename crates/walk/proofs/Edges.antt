@@ -1,13 +1,12 @@
 -- Which views of a board hold a tick: by their moments, and by one comparison with an edge.
 use mathlib.Core.Path.{_≡_, ap, _∙_}
-use mathlib.Core.Bool.{Bool, true, _&&_, and-eq-true-iff}
+use mathlib.Core.Bool.{true, _&&_, and-eq-true-iff}
 use mathlib.Core.List.{List}
 use mathlib.Core.Logic.{_⊎_, ⊎-elim}
 use Prim.Native.Nat.{ℕ, suc, _+_, _-_, _*_, _/_, _≤_, _<_, min}
 use native.Mathlib.Omega.{arith}
 use native.Mathlib.Nat.{div-zero, suc-mul, add-mul, mul-zero, mul-le-mul, zero-sub, zero-min, le-div-iff-mul-le, div-lt-iff-lt-mul}
 use borrow.Author.Tests.{ltb-true, ltb-false, lt-ltb, leb-true, le-leb}
-use lib.Bits.{bitAnd}
 use lib.Dec.{ltb, leb}
 use lib.ListN.{length, getD, set, length-set}
 use Rattle.lists.specs.Nested.{onFront, from}
@@ -18,8 +17,8 @@ use Rattle.rules.specs.Moments.{Moment, moment, upto}
 use Rattle.rules.specs.Cells.{cells}
 use Rattle.rules.specs.declared.Board.{Board}
 use Rattle.rules.proofs.MomentLaw.{counted, or-beyond, spaced, next-small, upto-small}
-use Rattle.walk.specs.Line.{namedBits, Spot}
-use Rattle.walk.specs.Edges.{reachOf, Numbered, never, edge}
+use Rattle.walk.specs.Line.{Spot}
+use Rattle.walk.specs.Edges.{countsFor, reachOf, heldBy, Numbered, never, edge}
 
 -- Views a slide apart, and the last tick that a moment may have
 module _ (slide last first views : ℕ) where
@@ -70,14 +69,7 @@ moment-fits b first views view given h k =
     omega (arith, spaced b first view, given .near, m)
 
 module _ (b : Board) (first views full : ℕ) (s : Spot) (given : Numbered b first views) (early : s .tick < never) where
-  abbrev held : ℕ
-  held = min (reachOf b s - first) views
-
-  -- its topic is named
-  abbrev named : Bool
-  named = ltb 0 (bitAnd (namedBits b) (s .bits))
-
-  past-edge : leb (edge b first views full) (s .tick) ≡ true → named ≡ true → full < held
+  past-edge : leb (edge b first views full) (s .tick) ≡ true → countsFor b s ≡ true → full < heldBy b first views s
   unfolding edge reachOf
   past-edge e t =
       by (ltb full views && leb (moment b (first + full)) limit)
@@ -89,18 +81,18 @@ module _ (b : Board) (first views full : ℕ) (s : Spot) (given : Numbered b fir
       rw t (omega (arith, f, counted b (first + full) (s .tick + b .window) .1 (m, omega (arith, k)))))
       (λ i. absurd (omega (arith, early, leb-true never (s .tick) (rw i at e))))
 
-  shown-past : full < held → (leb (edge b first views full) (s .tick) && named) ≡ true
+  shown-past : full < heldBy b first views s → (leb (edge b first views full) (s .tick) && countsFor b s) ≡ true
   unfolding edge reachOf
   shown-past h =
-      by named
+      by (countsFor b s)
       (λ t.
       let g = rw t at h in
       let c = counted b (first + full) (s .tick + b .window) .0 (omega arith) in
       rw (t, lt-ltb full views (omega arith), le-leb (moment b (first + full)) limit (c .0 .atMost)) (rw (le-leb (moment b (first + full) - b .window) (s .tick) (omega (arith, c .1)))))
       (λ t. absurd (omega (arith, rw (t, zero-sub, zero-min) at h)))
 
-  -- A board shows what stands at a spot exactly if its topic is named and its tick is not before the edge.
-  pub at-edge : (leb (edge b first views full) (s .tick) && named) ≡ ltb full held
+  -- A board shows what stands at a spot exactly if it counts for the board and its tick is not before the edge.
+  pub at-edge : (leb (edge b first views full) (s .tick) && countsFor b s) ≡ ltb full (heldBy b first views s)
   at-edge =
       both-ways _ _
       (λ e. let h = and-eq-true-iff _ _ .0 e in lt-ltb _ _ (past-edge (h .0) (h .1)))

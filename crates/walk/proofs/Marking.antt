@@ -2,11 +2,10 @@
 -- lowering and the search for the first view with something left may begin behind them.
 use mathlib.Core.Path.{_≡_, sym, ap, _∙_}
 use mathlib.Core.List.{List, _∷_}
-use mathlib.Core.Bool.{Bool, true, false, _&&_, and-eq-true-iff}
-use Prim.Native.Nat.{ℕ, _+_, _-_, _≤_, _<_, min}
+use mathlib.Core.Bool.{true, false, _&&_, and-eq-true-iff}
+use Prim.Native.Nat.{ℕ, _+_, _-_, _≤_, _<_}
 use native.Mathlib.Omega.{arith}
 use native.Mathlib.Nat.{zero-add, min-le-right}
-use lib.Bits.{bitAnd}
 use lib.Dec.{ltb, leb}
 use lib.ListN.{length, take, drop, set, replicate, length-set, take-append-drop, drop-of-length-le}
 use lib.Seq.{length-take-le}
@@ -17,13 +16,9 @@ use Rattle.lists.proofs.Nested.{rise-all, rise-lower, left-edge, empties-few, e
 use Rattle.lists.proofs.Fronts.{front-same, front-take, front-min}
 use Rattle.lists.proofs.Marks.{noted-shown, noted-passed, noted-empty}
 use Rattle.rules.specs.declared.Board.{Board}
-use Rattle.walk.specs.Line.{namedBits, Spot}
-use Rattle.walk.specs.Edges.{reachOf, viewsFrom, Numbered, holding, never, edge}
+use Rattle.walk.specs.Line.{Spot}
+use Rattle.walk.specs.Edges.{countsFor, reachOf, heldBy, viewsFrom, Numbered, holding, never, edge}
 use Rattle.walk.proofs.Edges.{at-edge}
-
--- its topic is named
-abbrev pub named : Board → Spot → Bool
-named b s = ltb 0 (bitAnd (namedBits b) (s .bits))
 
 -- After i entries: the marks so far, and what the views in hand mark of the entries left, make the whole.
 pub record Marking (b : Board) (first views total : ℕ) (es : List Spot) (whole left marks : List ℕ) (full start i : ℕ) : Type 0 where
@@ -47,9 +42,8 @@ module _ {b : Board} {first views total : ℕ} {es : List Spot} {whole left mark
     abbrev inHand : List (View Spot)
     inHand = viewsFrom b first (take views left)
 
-    -- the entry reaches so many of the views
     abbrev held : ℕ
-    held = min (reachOf b s - first) views
+    held = heldBy b first views s
 
     by-last : shows inHand s ≡ leftOf held (take views left)
     unfolding viewsFrom
@@ -58,10 +52,10 @@ module _ {b : Board} {first views total : ℕ} {es : List Spot} {whole left mark
     by-edge : leftOf held (take views left) ≡ ltb full held
     by-edge = left-edge 0 held (take views left) (m .rise) (rw own (min-le-right _ views)) ∙ ap (λ n. ltb n held) (sym (m .empty))
 
-    shown : shows inHand s ≡ (leb start (s .tick) && named b s)
-    shown = by-last ∙ by-edge ∙ sym (at-edge b first views full s given early) ∙ ap (λ n. leb n (s .tick) && named b s) (sym (m .past))
+    shown : shows inHand s ≡ (leb start (s .tick) && countsFor b s)
+    shown = by-last ∙ by-edge ∙ sym (at-edge b first views full s given early) ∙ ap (λ n. leb n (s .tick) && countsFor b s) (sym (m .past))
 
-    pub skips : (leb start (s .tick) && named b s) ≡ false → Marking b first views total es whole left marks full start (i + 1)
+    pub skips : (leb start (s .tick) && countsFor b s) ≡ false → Marking b first views total es whole left marks full start (i + 1)
     skips e = record {
       done = omega arith;
       all-views = m .all-views;
@@ -72,11 +66,11 @@ module _ {b : Board} {first views total : ℕ} {es : List Spot} {whole left mark
       together = sym (noted-passed inHand s (drop (i + 1) es) marks i (omega (arith, m .all-marks)) (shown ∙ e)) ∙ rw head at (m .together);
     }
 
-    module _ (e : (leb start (s .tick) && named b s) ≡ true) {less : List ℕ} (l : length less ≡ 1024)
+    module _ (e : (leb start (s .tick) && countsFor b s) ≡ true) {less : List ℕ} (l : length less ≡ 1024)
         (o : less ≡ from full (onFront (λ q. q - 1) (holding b first views (s .tick) - full)) left) where
       all-held : holding b first views (s .tick) ≡ held
       unfolding holding reachOf
-      all-held = let t = and-eq-true-iff (leb start (s .tick)) (named b s) .0 e .1 in rw t
+      all-held = let t = and-eq-true-iff (leb start (s .tick)) (countsFor b s) .0 e .1 in rw t
 
       lowered : take views less ≡ onFront (λ q. q - 1) (reachOf b s - first) (take views left)
       lowered =

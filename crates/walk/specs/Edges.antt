@@ -1,6 +1,6 @@
 -- One board's walk. Its views with nothing left are the first ones, so the board shows an entry exactly if the entry lies in the first view behind them:
 -- if its tick is at or past an edge.
-use mathlib.Core.Bool.{cond, _&&_}
+use mathlib.Core.Bool.{Bool, cond, _&&_}
 use mathlib.Core.List.{List, [], _∷_, _++_}
 use Prim.Native.Nat.{ℕ, _+_, _-_, _≤_, _<_, min}
 use lib.Bits.{bitAnd}
@@ -14,9 +14,16 @@ use Rattle.rules.specs.Cells.{cells}
 use Rattle.rules.specs.declared.Board.{Board}
 use Rattle.walk.specs.Line.{namedBits, Spot}
 
--- how many of the board's moments are not past the window of what stands at a spot
+-- whether what stands at a spot counts for the board, and how many of the board's moments are not past its window
+abbrev pub countsFor : Board → Spot → Bool
+countsFor b s = ltb 0 (bitAnd (namedBits b) (s .bits))
+
 unfoldable pub reachOf : Board → Spot → ℕ
-reachOf b s = cond (ltb 0 (bitAnd (namedBits b) (s .bits))) (upto b (s .tick + b .window)) 0
+reachOf b s = cond (countsFor b s) (upto b (s .tick + b .window)) 0
+
+-- how many of so many views hold it
+abbrev pub heldBy : Board → ℕ → ℕ → Spot → ℕ
+heldBy b first views s = min (reachOf b s - first) views
 
 -- the board's views from number `first` on, each with what it has left; and the views of all boards at a clock, with k left in each
 unfoldable pub viewsFrom : Board → ℕ → List ℕ → List (View Spot)
@@ -33,7 +40,7 @@ pub record Numbered (b : Board) (first views : ℕ) : Type 0 where
   pub few : views ≤ 1024
   pub slides : 0 < views → 0 < b .slide
 
--- how many of so many views hold a request of this tick that counts for the board
+-- the same by the tick alone, where it counts
 unfoldable pub holding : Board → ℕ → ℕ → ℕ → ℕ
 holding b first views tick = min (upto b (tick + b .window) - first) views
 

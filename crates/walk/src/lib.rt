@@ -137,14 +137,14 @@ fn named(board: Board) -> u32
     if mask == 0 { 255 } else { mask }
 }
 
-// The bits of a topic whose tick is not before the edge.
+// An entry's bits, if its tick is not before the edge.
 fn past(from: usize, tick: u32, bits: u8) -> u8
     ensures { λ r. ⌜ r ≡ cond (leb from tick) bits 0 ⌝ }
 {
     if from <= tick as usize { bits } else { 0 }
 }
 
-// Whether a board that names these topics, and whose edge is this, shows an entry. One test for both, so that it is seldom true and well foretold.
+// Whether a board that names these topics, and whose edge is this, shows an entry. It is one test and not two: seldom true, so that the processor foretells it.
 fn is_shown(named: u32, from: usize, tick: u32, bits: u8) -> bool
     ensures { λ r. ⌜ (r ≡ (leb from tick && ltb 0 (bitAnd named bits))) × (tick < never) ⌝ }
 {
