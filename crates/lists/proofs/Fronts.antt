@@ -26,15 +26,7 @@ module _ {A : Type 0} where
         ap (drop c) (sym s) ∙ drop-at (replicate c z) _ c (length-replicate c z),
       )
 
-  -- a list whose first places are z: one more is written; and what stands behind place j
-  pub fill-more : (z : A) (l : List A) (i : ℕ) → i < length l → set (replicate i z ++ drop i l) i z ≡ replicate (i + 1) z ++ drop (i + 1) l
-  fill-more z l i h = rw add-one (go i l h)
-    where
-      go : (n : ℕ) (xs : List A) → n < length xs → set (replicate n z ++ drop n xs) n z ≡ replicate (suc n) z ++ drop (suc n) xs
-      go n [] k = absurd (not-suc-le-zero k)
-      go zero (x ∷ xs) k = refl
-      go (suc n) (x ∷ xs) k = ap (λ (r : List A). z ∷ r) (go n xs (le-of-suc-le-suc k))
-
+  -- a list whose first places are z: what stands behind place j
   pub drop-filled : (z : A) (n j : ℕ) (l : List A) → drop j (replicate n z ++ drop n l) ≡ replicate (n - j) z ++ drop (j + (n - j)) l
   drop-filled z n j l =
       by (leb j n)

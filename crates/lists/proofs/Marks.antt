@@ -27,11 +27,6 @@ shown-mark true = refl
 shown-mark false = refl
 
 module _ {A : Type 0} where
-  pub noted-length : (vs : List (View A)) (xs : List A) (ms : List ℕ) → length (noted vs xs ms) ≡ length ms
-  noted-length vs [] ms = refl
-  noted-length vs (x ∷ xs) [] = refl
-  noted-length vs (x ∷ xs) (m ∷ ms) = ap suc (noted-length (pass x vs) xs ms)
-
   pub noted-none : (xs : List A) (ms : List ℕ) → noted [] xs ms ≡ ms
   noted-none [] ms = refl
   noted-none (x ∷ xs) [] = refl
