@@ -29,7 +29,9 @@ numbered n =
     (cond (eqb n 11) Refusal.Past
     (cond (eqb n 12) Refusal.Reply
     (cond (eqb n 13) Refusal.Place
-    Refusal.Disorder))))))))))))
+    (cond (eqb n 14) Refusal.Room
+    (cond (eqb n 15) Refusal.Form
+    Refusal.Disorder))))))))))))))
 
 again : (r : Refusal) → numbered (number r) ≡ r
 unfolding numbered
@@ -46,6 +48,8 @@ again Refusal.Boardless = refl
 again Refusal.Past = refl
 again Refusal.Reply = refl
 again Refusal.Place = refl
+again Refusal.Room = refl
+again Refusal.Form = refl
 again Refusal.Disorder = refl
 
 pub same-number : (r s : Refusal) → number r ≡ number s → r ≡ s

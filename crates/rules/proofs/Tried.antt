@@ -4,7 +4,7 @@ use mathlib.Core.List.{List, [], _∷_}
 use Prim.Native.Nat.{ℕ}
 use lib.ListN.{replicate}
 use Rattle.rules.specs.Desk.{names, roundedUp, need, needs, boardFits, requestFits, fresh}
-use Rattle.rules.specs.Messages.{bigEndian, zeros, zerosStand, message, fieldsFit}
+use Rattle.rules.specs.Messages.{bigEndian, layout, zeroPlaces, zerosStand, message, fieldsFit}
 use Rattle.rules.specs.Moments.{isMoment, moment, upto, moments, inWindow, reached}
 use Rattle.rules.specs.SharedList.{views, named, settled}
 use Rattle.rules.specs.Refusals.{fallsFrom, falls, entryFits, replyNeed, disorder}
@@ -70,5 +70,5 @@ reader-case :
     × (readerCall (head 5 0 zeros12) ≡ refused 4)
     × (readerCall (head 3 1 zeros12) ≡ refused 5)
     × (readerCall (head 2 8 zeros12) ≡ refused 6)
-unfolding head zeros12 readerCall zerosStand zeros message bigEndian fieldsFit boardFits requestFits
+unfolding head zeros12 readerCall zerosStand zeroPlaces layout message bigEndian fieldsFit boardFits requestFits
 reader-case = (refl, refl, refl, refl, refl, refl, refl, refl, refl, refl)

@@ -3,13 +3,13 @@ use mathlib.Core.List.{List, [], _∷_, _++_}
 use mathlib.Core.Bool.{cond}
 use Prim.Native.Nat.{ℕ, suc, _+_}
 use lib.Dec.{eqb}
-use lib.ListN.{length, getD, set, drop}
+use lib.ListN.{length, getD, set, take, drop}
 use Rattle.lists.specs.Views.{count, first}
 use Rattle.rules.specs.Desk.{within, loaded, listed, noEntry}
-use Rattle.rules.specs.Messages.{byKind, message, boardOf}
+use Rattle.rules.specs.Messages.{byKind, message, encoded, boardOf}
 use Rattle.rules.specs.Moments.{isMoment, reached}
 use Rattle.rules.specs.SharedList.{viewAt, named, placed, settled}
-use Rattle.rules.specs.Refusals.{judged, readerRules, boardRules, openRules, requestRules, stepRules, lengthRules, placeRules, kindRules}
+use Rattle.rules.specs.Refusals.{judged, readerRules, writerRules, boardRules, openRules, requestRules, stepRules, lengthRules, placeRules, kindRules}
 use Rattle.rules.specs.declared.Board.{Board}
 use Rattle.rules.specs.declared.Entry.{Entry}
 use Rattle.rules.specs.declared.Message.{Message}
@@ -35,6 +35,22 @@ lengthCall d = judged (lengthRules d) refused (accepted (d .len))
 
 unfoldable pub placeCall : Desk → ℕ → Reply Entry
 placeCall d at = judged (placeRules d at) refused (accepted (getD (d .entries) at noEntry))
+
+-- The writer: from a version, a message, the caller's slice of bytes and a place in it to the reply and the slice afterwards. The message's 20 bytes stand at
+-- the place, and every other byte as it stood.
+
+pub record WriterOutcome : Type 0 where
+  pub reply : Reply Unit
+  pub slice : List ℕ
+
+abbrev pub placedAt : ℕ → List ℕ → List ℕ → List ℕ
+placedAt at bytes slice = take at slice ++ (bytes ++ drop (at + length bytes) slice)
+
+unfoldable pub writerCall : ℕ → Message → List ℕ → ℕ → WriterOutcome
+writerCall version m slice at =
+    judged (writerRules version m (length slice) at)
+    (λ n. record { reply = refused n; slice = slice })
+    (record { reply = accepted tt; slice = placedAt at (encoded version m) slice })
 
 -- Calls that alter the desk: a refused one leaves it as it stood.
 

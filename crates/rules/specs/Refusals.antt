@@ -8,9 +8,10 @@ use lib.Dec.{eqb, ltb, leb}
 use lib.ListN.{length, take}
 use Rattle.lists.specs.Views.{all}
 use Rattle.rules.specs.Desk.{limit, within, need, needs, boardFits, requestFits, clockFits, loaded, listed, isOpen}
-use Rattle.rules.specs.Messages.{mark, sameBytes, numberAt, message, zerosStand, fieldsFit}
+use Rattle.rules.specs.Messages.{mark, sameBytes, numberAt, kindAt, message, zerosStand, fieldsFit}
 use Rattle.rules.specs.declared.Board.{Board}
 use Rattle.rules.specs.declared.Entry.{Entry}
+use Rattle.rules.specs.declared.Message.{Message}
 use Rattle.rules.specs.declared.Desk.{Desk}
 
 -- A line of the table: a number, and when it is given.
@@ -80,9 +81,18 @@ readerRules bytes =
     1 when ltb (length bytes) 20
     ∷ 2 when not (sameBytes (take 3 bytes) mark)
     ∷ 3 when not (eqb (numberAt bytes 3 2) 1)
-    ∷ 4 when not (within 1 4 (message bytes .kind))
-    ∷ 5 when not (zerosStand bytes (message bytes .kind))
+    ∷ 4 when not (within 1 4 (kindAt bytes))
+    ∷ 5 when not (zerosStand bytes (kindAt bytes))
     ∷ 6 when not (fieldsFit (message bytes))
+    ∷ []
+
+-- the version and the message to write, the length of the slice, and the place in it
+abbrev pub writerRules : ℕ → Message → ℕ → ℕ → List Rule
+writerRules version m room at =
+    3 when not (eqb version 1)
+    ∷ 4 when not (within 1 4 (m .kind))
+    ∷ 6 when not (fieldsFit m)
+    ∷ 14 when ltb room (at + 20)
     ∷ []
 
 abbrev pub boardRules : Desk → Board → List Rule

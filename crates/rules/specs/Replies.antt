@@ -27,6 +27,8 @@ number Refusal.Boardless = 10
 number Refusal.Past = 11
 number Refusal.Reply = 12
 number Refusal.Place = 13
+number Refusal.Room = 14
+number Refusal.Form = 15
 number Refusal.Disorder = 99
 
 abbrev pub asked : Asked → Reply Unit

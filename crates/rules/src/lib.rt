@@ -50,7 +50,7 @@ pub struct Message {
     pub third: u32,
 }
 
-// Document 01's refusals, in the order of their numbers.
+// The refusals of documents 01 and 02, in the order of their numbers.
 pub enum Refusal {
     Short,
     Mark,
@@ -65,6 +65,8 @@ pub enum Refusal {
     Past,
     Reply,
     Place,
+    Room,
+    Form,
     Disorder,
 }
 
@@ -236,7 +238,7 @@ pub fn in_window(board: Board, at: u32, e: Entry) -> bool
     false
 }
 
-// Document 01's number of a refusal.
+// A refusal's number.
 pub fn number(refusal: Refusal) -> u32
     ensures { λ r. ⌜ r ≡ numberOf refusal ⌝ }
 {
@@ -254,6 +256,8 @@ pub fn number(refusal: Refusal) -> u32
         Refusal::Past => 11,
         Refusal::Reply => 12,
         Refusal::Place => 13,
+        Refusal::Room => 14,
+        Refusal::Form => 15,
         Refusal::Disorder => 99,
     }
 }
