@@ -9,3 +9,4 @@ pub mod Edges
 pub mod Tried
 pub mod Fitting
 pub mod Answering
+pub mod Stops

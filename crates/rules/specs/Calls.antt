@@ -1,7 +1,8 @@
 -- Each call of document 01: from the desk, its arguments and the caller's slice of words to the reply, the desk and the slice afterwards.
+use mathlib.Core.Path.{_≡_}
 use mathlib.Core.List.{List, [], _∷_, _++_}
 use mathlib.Core.Bool.{cond}
-use Prim.Native.Nat.{ℕ, suc, _+_}
+use Prim.Native.Nat.{ℕ, suc, _+_, _<_}
 use lib.Dec.{eqb}
 use lib.ListN.{length, getD, set, take, drop}
 use Rattle.lists.specs.Views.{count, first}
@@ -146,6 +147,12 @@ stepCall d target slice =
     judged (stepRules d target (length slice))
     (λ n. record { reply = refused n; desk = d; slice = slice })
     (cond (eqb target (d .time .clock)) (stays d slice) (movedTo d (reached (loaded d) (d .time .clock) target) slice))
+
+-- The caller steps again, until the target: the clocks that the accepted steps reach, one after the other.
+pub data StepsTo (target : ℕ) : Desk → List ℕ → Type 0 where
+  there : {d : Desk} → d .time .clock ≡ target → StepsTo target d []
+  again : {d : Desk} {s : Steps} {clocks : List ℕ} → d .time .clock < target → (slice : List ℕ) → stepCall d target slice .reply ≡ accepted s
+      → StepsTo target (stepCall d target slice .desk) clocks → StepsTo target d (s .clock ∷ clocks)
 
 -- A message for the desk: the call that its kind names; where it names none, 99 or 4.
 

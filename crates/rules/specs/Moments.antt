@@ -1,7 +1,7 @@
 -- Document 01, "Moments, windows, ranks". A name with a capital is the document's sentence; the same name without one computes it.
 use mathlib.Core.Path.{_≡_}
 use mathlib.Core.List.{List, [], _∷_}
-use mathlib.Core.Bool.{Bool, true, _&&_, _||_}
+use mathlib.Core.Bool.{Bool, true, false, _&&_, _||_}
 use mathlib.Core.Logic.{_⊎_}
 use Prim.Native.Nat.{ℕ, zero, suc, _+_, _-_, _*_, _/_, _%_, _≤_, _<_, min}
 use lib.Dec.{eqb, ltb, leb}
@@ -77,6 +77,11 @@ Answer b T xs shown = Best better (b .k) (windowOf b T xs) shown
 
 unfoldable pub answer : Board → ℕ → List Accepted → List Accepted
 answer b T xs = take (b .k) (windowOf b T (ranked better xs))
+
+-- a moment of some board
+abbrev pub someMoment : List Board → ℕ → Bool
+someMoment [] T = false
+someMoment (b ∷ bs) T = isMoment b T || someMoment bs T
 
 -- A step from clock n to a target reaches m: the target, or before it the earliest moment of any board above n.
 pub record Reached (boards : List Board) (n target m : ℕ) : Type 0 where
