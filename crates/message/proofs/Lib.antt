@@ -1,6 +1,6 @@
 pub mod Answers
-pub mod Encoding
-pub mod Front
 pub mod Loops
 pub mod Numbers
+pub mod Parts
+pub mod Placing
 pub mod Tight
