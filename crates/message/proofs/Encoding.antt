@@ -3,27 +3,29 @@
 -- stands there is accepted, what is accepted stands there, and what stands there is written as these bytes.
 use mathlib.Core.Path.{_≡_, refl, sym, ap, ap₂, subst, _∙_}
 use mathlib.Core.List.{List, [], _∷_, _++_, append-assoc}
-use mathlib.Core.Bool.{Bool, true, not, and-eq-true-iff}
+use mathlib.Core.Bool.{true, and-eq-true-iff}
 use mathlib.Core.Logic.{_⊎_, inl, inr}
-use Prim.Native.Nat.{ℕ, _+_, _-_, _^_, _≤_, _<_}
+use Prim.Native.Nat.{ℕ, _+_, _≤_}
 use native.Mathlib.Omega.{arith}
-use borrow.Author.Tests.{ltb-true, ltb-false, le-ltb, leb-true, eqb-true, eq-eqb, not-false}
-use lib.Dec.{eqb, leb, lit<}
-use lib.ListN.{length, take, drop, length-append, length-drop}
-use lib.Seq.{take-add, take-at, drop-at, drop-drop, length-take-le}
-use Rattle.lists.proofs.Bools.{by, clash}
+use borrow.Author.Tests.{ltb-false, le-ltb, leb-true, eqb-true, not-false}
+use lib.Dec.{eqb, leb}
+use lib.ListN.{length, take, drop, length-append}
+use lib.Seq.{take-add, drop-at, drop-drop, length-take-le}
+use Rattle.lists.proofs.Bools.{clash}
 use Rattle.rules.specs.Calls.{Reply, WriterOutcome, readerCall, writerCall, placedAt}
 use Rattle.rules.specs.Calls.Reply.{refused, accepted}
 use Rattle.rules.specs.Desk.{within, boardFits, requestFits, clockFits}
-use Rattle.rules.specs.Messages.{mark, sameBytes, numberAt, kindAt, Holds, layout, valueOf, boardOf, blank, filled, message, own, digits, laid, encoded, zerosStand, fieldsFit, rest}
+use Rattle.rules.specs.Messages.{mark, sameBytes, numberAt, kindAt, Holds, layout, valueOf, boardOf, blank, message, own, digits, laid, encoded, zerosStand, fieldsFit, rest}
 use Rattle.rules.specs.Refusals.{Rule, judged, readerRules, writerRules}
 use Rattle.rules.specs.declared.Message.{Message}
 use Rattle.rules.proofs.Fitting.{board-fits}
 use Rattle.rules.proofs.Refusing.{None, none-given, Denied, Granted, judged-cases}
-use Rattle.message.specs.Encoding.{Bytes, Words, frontBytes}
-use Rattle.message.proofs.Holding.{Reads, Fits, numberIn, number-part, digits-of, laid-length, laid-reads, reads-zeros, zeros-read, reads-laid, zero-numbers}
-use Rattle.message.proofs.Parts.{Each, each-kind, layout-joined, filled-same, given-back, numbers, message-own, own-kind, own-own, own-fits, encoded-front}
-use Rattle.message.proofs.Placing.{digits-length, front-length}
+use Rattle.message.specs.Encoding.{Bytes, Words}
+use Rattle.message.specs.Pieces.{frontBytes}
+use Rattle.message.proofs.Holding.{Reads, Fits, numberIn, laid-length, laid-reads, reads-zeros, zeros-read, reads-laid, zero-numbers}
+use Rattle.message.proofs.Numbers.{number-part, digits-length, digits-of}
+use Rattle.message.proofs.Parts.{each-kind, layout-joined, filled-same, given-back, numbers, message-own, own-kind, own-own, own-fits, encoded-front}
+use Rattle.message.proofs.Placing.{front-length}
 
 -- A message of this version stands at the front of the bytes, and its fields are in their ranges.
 pub record Stands (version : ℕ) (bytes : List ℕ) (m : Message) : Type 0 where

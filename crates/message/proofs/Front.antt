@@ -10,7 +10,8 @@ use lib.Seq.{take-append-le, take-all, length-take-le}
 use Rattle.lists.proofs.Bools.{by}
 use Rattle.rules.specs.Calls.{readerCall}
 use Rattle.rules.specs.Messages.{layout, blank, zerosStand, message}
-use Rattle.message.proofs.Holding.{number-more, numbers-more, zero-numbers, numberIn}
+use Rattle.message.proofs.Holding.{numbers-more, zero-numbers, numberIn}
+use Rattle.message.proofs.Numbers.{number-more}
 use Rattle.message.proofs.Parts.{layout-joined, filled-same, zero-same}
 
 module _ (xs ys : List ℕ) (h : 20 ≤ length xs) where

@@ -2,10 +2,9 @@
 -- A law of one kind's parts is shown of the four rows (`each-row`).
 use mathlib.Core.Path.{_≡_, refl, sym, ap, ap₂, _∙_}
 use mathlib.Core.List.{List, [], _∷_, _++_, append-assoc, append-nil}
-use mathlib.Core.Bool.{Bool, true, false, cond, _&&_, and-assoc}
+use mathlib.Core.Bool.{Bool, true, false, cond, _&&_}
 use Prim.Native.Nat.{ℕ, _+_}
 use lib.Dec.{eqb}
-use Rattle.lists.specs.Views.{all}
 use Rattle.lists.proofs.Bools.{by}
 use Rattle.rules.specs.Messages.{
   mark,
@@ -27,13 +26,7 @@ use Rattle.rules.specs.Messages.{
   fieldsFit,
 }
 use Rattle.rules.specs.declared.Message.{Message}
-use Rattle.message.specs.Encoding.{frontBytes, fieldBytes}
-
-pub all-append : {A : Type 0} (p : A → Bool) (xs ys : List A) → all p (xs ++ ys) ≡ (all p xs && all p ys)
-all-append p [] ys = refl
-all-append p (x ∷ xs) ys = ap (λ b. p x && b) (all-append p xs ys) ∙ sym (and-assoc (p x) (all p xs) (all p ys))
-
--- Parts
+use Rattle.message.specs.Pieces.{frontBytes, fieldBytes}
 
 abbrev pub Each : (Part → Type 0) → List Part → Type 0
 Each P [] = Unit {0}

@@ -1,20 +1,16 @@
 -- Bytes placed in a slice: the slice keeps its length, bytes placed right behind others are placed with them, and the last byte may be put first.
-use mathlib.Core.Path.{_≡_, refl, sym, ap, _∙_}
+use mathlib.Core.Path.{_≡_, sym, ap, _∙_}
 use mathlib.Core.List.{List, [], _∷_, _++_, append-assoc}
-use Prim.Native.Nat.{ℕ, zero, suc, _+_, _≤_, _<_}
+use Prim.Native.Nat.{ℕ, suc, _+_, _≤_, _<_}
 use native.Mathlib.Omega.{arith}
 use native.Mathlib.Nat.{add-zero}
-use lib.ListN.{length, take, drop, set, length-append, length-drop, take-append-drop}
+use lib.ListN.{length, take, drop, set, length-append, take-append-drop}
 use lib.Seq.{paste, length-take-le, length-paste, take-length, take-at, drop-at, take-set-le, set-split, drop-drop}
 use Rattle.lists.proofs.Fronts.{drop-past}
 use Rattle.rules.specs.Calls.{placedAt}
 use Rattle.rules.specs.Messages.{mark, digits}
-use Rattle.message.specs.Encoding.{frontBytes}
-
-pub digits-length : (size n : ℕ) → length (digits size n) ≡ size
-unfolding digits
-digits-length zero n = refl
-digits-length (suc size) n = rw (length-append, digits-length size) (omega arith)
+use Rattle.message.specs.Pieces.{frontBytes}
+use Rattle.message.proofs.Numbers.{digits-length}
 
 pub placed-none : (at : ℕ) (slice : List ℕ) → placedAt at [] slice ≡ slice
 placed-none at slice = rw add-zero (take-append-drop at slice)

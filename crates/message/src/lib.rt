@@ -12,8 +12,8 @@ ghost use Rattle.lists.specs.Views.{all};
 ghost use Rattle.rules.specs.Calls.{readerCall, writerCall, placedAt};
 ghost use Rattle.rules.specs.Messages.{mark, sameBytes, numberAt, places, isZero, zerosStand, message, own, digits, encoded, fieldsFit, rest};
 ghost use Rattle.rules.specs.Replies.{read as readOf};
-ghost use Rattle.message.specs.Encoding.{frontBytes, fieldBytes};
 ghost use Rattle.message.specs.Outcomes.{wrote};
+ghost use Rattle.message.specs.Pieces.{frontBytes, fieldBytes};
 
 pub const SIZE: usize = 20;
 
@@ -214,16 +214,9 @@ fn encode(version: u32, message: Message, bytes: &mut [u8], at: usize)
     requires { ⌜ at + 20 ≤ length (now bytes) ⌝ }
     ensures { λ _. ⌜ now (bytes .exit) ≡ placedAt at (encoded version message) (now (bytes .entry)) ⌝ }
 {
-    let fields = own(message);
-    put_front(bytes, at, version, fields.kind);
-    put_fields(
-        bytes,
-        at,
-        fields.byte,
-        fields.first,
-        fields.second,
-        fields.third,
-    );
+    let own = own(message);
+    put_front(bytes, at, version, own.kind);
+    put_fields(bytes, at, own.byte, own.first, own.second, own.third);
 }
 
 fn put_front(bytes: &mut [u8], at: usize, version: u32, kind: u32)

@@ -1,12 +1,12 @@
 -- `message::encode` meets its contract: the fields stand right behind the front, and both together are the message in bytes.
-use mathlib.Core.Path.{_≡_, ap, _∙_}
+use mathlib.Core.Path.{ap, _∙_}
 use mathlib.Core.List.{List, _++_}
 use Prim.Native.Nat.{ℕ, _+_}
 use native.Mathlib.Omega.{arith}
 use borrow.Author.Needs.{needs}
 use Rattle.rules.specs.Calls.{placedAt}
 use Rattle.rules.specs.declared.Message.{Message}
-use Rattle.message.specs.Encoding.{frontBytes, fieldBytes}
+use Rattle.message.specs.Pieces.{frontBytes, fieldBytes}
 use Rattle.message.proofs.Parts.{encoded-own}
 use Rattle.message.proofs.Placing.{front-length, joined}
 use Rattle.message.proofs.encode.Statement.{statement}

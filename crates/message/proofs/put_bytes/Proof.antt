@@ -1,6 +1,6 @@
 -- `message::put_bytes` meets its contract. The loop's invariant: the first `i` bytes are pasted into the slice as it stood.
 use mathlib.Core.Path.{_≡_, ap, _∙_}
-use Prim.Native.Nat.{ℕ, _+_, _-_, _≤_}
+use Prim.Native.Nat.{_-_, _≤_}
 use native.Mathlib.Omega.{arith}
 use native.Mathlib.Numerals.{add-one}
 use lib.ListN.{length}

@@ -1,10 +1,11 @@
 -- `message::put_fields` meets its contract: what is put right behind what was put before it stands with it.
-use mathlib.Core.List.{List, _++_}
-use Prim.Native.Nat.{ℕ, _+_}
+use mathlib.Core.List.{_++_}
+use Prim.Native.Nat.{_+_}
 use native.Mathlib.Omega.{arith}
 use borrow.Author.Needs.{needs}
 use Rattle.rules.specs.Messages.{digits}
-use Rattle.message.proofs.Placing.{digits-length, joined}
+use Rattle.message.proofs.Numbers.{digits-length}
+use Rattle.message.proofs.Placing.{joined}
 use Rattle.message.proofs.put_fields.Statement.{statement}
 use Rattle.message.proofs.put_fields.Tie as tie
 

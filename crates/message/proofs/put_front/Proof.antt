@@ -1,12 +1,13 @@
 -- `message::put_front` meets its contract: what is put right behind what was put before it stands with it.
-use mathlib.Core.Path.{_≡_, refl, ap, _∙_}
+use mathlib.Core.Path.{refl, ap, _∙_}
 use mathlib.Core.List.{_++_}
 use Prim.Native.Nat.{_+_}
 use native.Mathlib.Omega.{arith}
 use borrow.Author.Needs.{needs}
 use Rattle.rules.specs.Calls.{placedAt}
 use Rattle.rules.specs.Messages.{mark, digits}
-use Rattle.message.proofs.Placing.{digits-length, joined}
+use Rattle.message.proofs.Numbers.{digits-length}
+use Rattle.message.proofs.Placing.{joined}
 use Rattle.message.proofs.put_front.Statement.{statement}
 use Rattle.message.proofs.put_front.Tie as tie
 

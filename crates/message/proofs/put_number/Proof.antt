@@ -1,5 +1,5 @@
 -- `message::put_number` meets its contract. The loop's invariant: what is left of the number, put into its first `i` bytes, makes the whole.
-use mathlib.Core.Path.{_≡_, refl, sym, ap, _∙_}
+use mathlib.Core.Path.{_≡_, refl, sym, _∙_}
 use mathlib.Core.List.{List}
 use Prim.Native.Nat.{ℕ, suc, _+_, _-_, _/_, _%_, _≤_, _<_}
 use native.Mathlib.Omega.{arith}
@@ -7,7 +7,8 @@ use lib.ListN.{length, set, length-set}
 use borrow.Author.Needs.{needs}
 use Rattle.rules.specs.Calls.{placedAt}
 use Rattle.rules.specs.Messages.{digits}
-use Rattle.message.proofs.Placing.{digits-length, placed-none, last-first}
+use Rattle.message.proofs.Numbers.{digits-length}
+use Rattle.message.proofs.Placing.{placed-none, last-first}
 use Rattle.message.proofs.put_number.Statement.{statement}
 use Rattle.message.proofs.put_number.Tie as tie
 
