@@ -17,9 +17,7 @@ use Rattle.message.proofs.Loops.{all-append}
 use Rattle.message.proofs.Numbers.{digits-of, digits-length, number-part, number-more, zero-number}
 use Rattle.message.proofs.Parts.{Each, Joined, zeroParts, zero-same}
 
--- Parts one behind the other
-
-pub joined-le : (from : ℕ) (ps : List Part) (end : ℕ) → Joined from ps end → from ≤ end
+joined-le : (from : ℕ) (ps : List Part) (end : ℕ) → Joined from ps end → from ≤ end
 joined-le from [] end j = omega (arith, j)
 joined-le from (p ∷ ps) end j = omega (arith, joined-le (from + p .size) ps end (j .1))
 
@@ -27,11 +25,13 @@ joined-le from (p ∷ ps) end j = omega (arith, joined-le (from + p .size) ps en
 abbrev pub numberIn : List ℕ → Part → ℕ
 numberIn bytes p = numberAt bytes (p .place) (p .size)
 
+-- Where more bytes follow, the numbers are the same.
 pub numbers-more : (xs ys : List ℕ) (from : ℕ) (ps : List Part) (end : ℕ) → Joined from ps end → end ≤ length xs → Each (λ p. numberIn (xs ++ ys) p ≡ numberIn xs p) ps
 numbers-more xs ys from [] end j h = tt
 numbers-more xs ys from (p ∷ ps) end j h =
     (number-more xs ys (p .place) (p .size) (omega (arith, j .0, joined-le (from + p .size) ps end (j .1))), numbers-more xs ys (from + p .size) ps end (j .1) h)
 
+-- The zeros stand exactly if the parts that hold them have the number 0.
 pub zero-numbers : (bytes : List ℕ) (from : ℕ) (ps : List Part) (end : ℕ) → Joined from ps end → end ≤ length bytes
     → all (isZero bytes) (zeroPlaces ps) ≡ zeroParts ps (numberIn bytes)
 unfolding zeroPlaces
@@ -55,16 +55,19 @@ abbrev pub Fits : Message → List Part → Type 0
 Fits m ps = Each (λ p. valueOf (p .holds) m < 256 ^ p .size) ps
 
 module _ (m : Message) where
-  no-zero : (h : Holds) → cond (isField h) true (eqb (valueOf h m) 0) ≡ true
-  no-zero Holds.zeros = refl
-  no-zero Holds.byte = refl
-  no-zero Holds.first = refl
-  no-zero Holds.second = refl
-  no-zero Holds.third = refl
+  -- a part that holds zeros has 0
+  zero-value : (h : Holds) → cond (isField h) true (eqb (valueOf h m) 0) ≡ true
+  zero-value Holds.zeros = refl
+  zero-value Holds.byte = refl
+  zero-value Holds.first = refl
+  zero-value Holds.second = refl
+  zero-value Holds.third = refl
 
   own-zeros : (ps : List Part) → zeroParts ps (λ p. valueOf (p .holds) m) ≡ true
   own-zeros [] = refl
-  own-zeros (p ∷ ps) = rw (no-zero (p .holds)) (own-zeros ps)
+  own-zeros (p ∷ ps) = rw (zero-value (p .holds)) (own-zeros ps)
+
+  -- What is laid reaches from the first place to the end, and reads as the message.
 
   pub laid-length : (from : ℕ) (ps : List Part) (end : ℕ) → Joined from ps end → from + length (laid ps m) ≡ end
   unfolding laid
@@ -85,6 +88,8 @@ module _ (m : Message) where
       (rw (e₁, j .0) (number-part front (laid ps m ++ tail) from (p .size) (valueOf (p .holds) m) n (f .0)), laid-reads (from + p .size) ps end (j .1) (f .1) (front ++ d) tail bytes k e₂)
 
   module _ (bytes : List ℕ) where
+    -- Where bytes read as a message, their zeros stand; and where the zeros stand, they read as the message that has their numbers.
+
     pub reads-zeros : (from : ℕ) (ps : List Part) (end : ℕ) → Joined from ps end → end ≤ length bytes → Reads bytes m ps → all (isZero bytes) (zeroPlaces ps) ≡ true
     reads-zeros from ps end j h r = zero-numbers bytes from ps end j h ∙ zero-same (numberIn bytes) (λ p. valueOf (p .holds) m) ps r ∙ own-zeros ps
 
@@ -98,6 +103,7 @@ module _ (m : Message) where
         go true z g = sym g
         go false z g = eqb-true (numberIn bytes p) 0 z ∙ sym g
 
+    -- Where bytes read as a message, it is laid as these bytes.
     pub reads-laid : Bytes bytes → (from : ℕ) (ps : List Part) (end : ℕ) → Joined from ps end → end ≤ length bytes → Reads bytes m ps
         → laid ps m ≡ take (end - from) (drop from bytes)
     unfolding laid

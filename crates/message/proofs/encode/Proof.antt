@@ -8,7 +8,7 @@ use Rattle.rules.specs.Calls.{placedAt}
 use Rattle.rules.specs.declared.Message.{Message}
 use Rattle.message.specs.Pieces.{frontBytes, fieldBytes}
 use Rattle.message.proofs.Parts.{encoded-own}
-use Rattle.message.proofs.Placing.{front-length, joined}
+use Rattle.message.proofs.Placing.{front-length, put-behind}
 use Rattle.message.proofs.encode.Statement.{statement}
 use Rattle.message.proofs.encode.Tie as tie
 
@@ -35,7 +35,7 @@ returns c =
     let owned = before .before .before in
     let a = owned .before .before .args in
     let f = owned .own .result in
-    joined (a .at) (a .at + 6) 6 (frontBytes (a .version) (f .kind)) (fieldBytes (f .byte) (f .first) (f .second) (f .third)) (a .bytes .now)
+    put-behind (a .at) (a .at + 6) 6 (frontBytes (a .version) (f .kind)) (fieldBytes (f .byte) (f .first) (f .second) (f .third)) (a .bytes .now)
     (front-length (a .version) (f .kind))
     (omega arith)
     (omega arith)

@@ -5,7 +5,7 @@ use native.Mathlib.Omega.{arith}
 use borrow.Author.Needs.{needs}
 use Rattle.rules.specs.Messages.{digits}
 use Rattle.message.proofs.Numbers.{digits-length}
-use Rattle.message.proofs.Placing.{joined}
+use Rattle.message.proofs.Placing.{put-behind}
 use Rattle.message.proofs.put_fields.Statement.{statement}
 use Rattle.message.proofs.put_fields.Tie as tie
 
@@ -53,10 +53,10 @@ returns c =
     let third = digits 4 (a .third) in
     let second = digits 4 (a .second) ++ third in
     let first = digits 4 (a .first) ++ second in
-    joined (a .at + 6) (a .at + 7) 1 (digits 1 (a .byte)) (digits 1 0 ++ first) (a .bytes .now) (digits-length 1 (a .byte)) (omega arith) (omega arith)
-    (joined (a .at + 7) (a .at + 8) 1 (digits 1 0) first (six .put-number .last .0) (digits-length 1 0) (omega arith) (omega arith)
-    (joined (a .at + 8) (a .at + 12) 4 (digits 4 (a .first)) second (seven .put-number2 .last .0) (digits-length 4 (a .first)) (omega arith) (omega arith)
-    (joined (a .at + 12) (a .at + 16) 4 (digits 4 (a .second)) third (eight .put-number3 .last .0) (digits-length 4 (a .second)) (omega arith) (omega arith)
+    put-behind (a .at + 6) (a .at + 7) 1 (digits 1 (a .byte)) (digits 1 0 ++ first) (a .bytes .now) (digits-length 1 (a .byte)) (omega arith) (omega arith)
+    (put-behind (a .at + 7) (a .at + 8) 1 (digits 1 0) first (six .put-number .last .0) (digits-length 1 0) (omega arith) (omega arith)
+    (put-behind (a .at + 8) (a .at + 12) 4 (digits 4 (a .first)) second (seven .put-number2 .last .0) (digits-length 4 (a .first)) (omega arith) (omega arith)
+    (put-behind (a .at + 12) (a .at + 16) 4 (digits 4 (a .second)) third (eight .put-number3 .last .0) (digits-length 4 (a .second)) (omega arith) (omega arith)
     (sixteen .put-number5 .ensures)
     (twelve .put-number4 .ensures))
     (eight .put-number3 .ensures))

@@ -7,7 +7,7 @@ use borrow.Author.Needs.{needs}
 use Rattle.rules.specs.Calls.{placedAt}
 use Rattle.rules.specs.Messages.{mark, digits}
 use Rattle.message.proofs.Numbers.{digits-length}
-use Rattle.message.proofs.Placing.{joined}
+use Rattle.message.proofs.Placing.{put-behind}
 use Rattle.message.proofs.put_front.Statement.{statement}
 use Rattle.message.proofs.put_front.Tie as tie
 
@@ -43,8 +43,8 @@ returns c =
     let marked = zero .before .before .before in
     let a = marked .before .before .args in
     let stood = a .bytes .now in
-    joined (a .at) (a .at + 3) 3 mark (digits 2 (a .version) ++ digits 1 (a .kind)) stood refl (omega arith) (omega arith)
-    (joined (a .at + 3) (a .at + 5) 2 (digits 2 (a .version)) (digits 1 (a .kind)) (zero .put-bytes .last .0) (digits-length 2 (a .version)) (omega arith) (omega arith)
+    put-behind (a .at) (a .at + 3) 3 mark (digits 2 (a .version) ++ digits 1 (a .kind)) stood refl (omega arith) (omega arith)
+    (put-behind (a .at + 3) (a .at + 5) 2 (digits 2 (a .version)) (digits 1 (a .kind)) (zero .put-bytes .last .0) (digits-length 2 (a .version)) (omega arith) (omega arith)
     (five .put-number2 .ensures)
     (three .put-number .ensures))
     (zero .put-bytes .ensures ∙ ap (λ l. placedAt (a .at) l stood) (marked .mark .ensures))
