@@ -6,4 +6,5 @@ pub mod Loops
 pub mod Numbers
 pub mod Parts
 pub mod Placing
+pub mod Standing
 pub mod Tight
