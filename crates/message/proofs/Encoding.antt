@@ -1,79 +1,66 @@
--- An accepted message's twenty bytes fall into parts, one for each number, and a part is the digits of its number: so the fields determine the bytes.
-use mathlib.Core.Path.{_≡_, refl, sym, ap, ap₂, _∙_}
-use mathlib.Core.List.{List, [], _∷_, _++_}
-use mathlib.Core.Bool.{true, and-eq-true-iff}
-use Prim.Native.Nat.{ℕ, zero, suc, _+_, _*_, _≤_, _<_}
+-- Reading what was written returns the fields (`read-written`); writing what was read returns the same bytes (`written-read`, `accepted-bytes`). What was read has
+-- the fields of its kind alone (`read-own`), and its bytes are determined by it (`same-message`).
+use mathlib.Core.Path.{_≡_, sym, ap, _∙_}
+use mathlib.Core.List.{List, _++_}
+use Prim.Native.Nat.{ℕ, _+_, _≤_}
 use native.Mathlib.Omega.{arith}
-use native.Mathlib.Numerals.{add-one}
-use borrow.Author.Tests.{ltb-false, eqb-true, not-false}
-use lib.Arith.{digits-div, digits-mod}
-use lib.Dec.{eqb}
-use lib.ListN.{length, getD, take, drop, length-drop}
-use lib.Seq.{take-add, take-suc, getD-drop}
-use Rattle.lists.proofs.Bools.{clash}
-use Rattle.rules.specs.Calls.{readerCall}
+use borrow.Author.Tests.{ltb-false, le-ltb, eqb-true, not-false}
+use lib.ListN.{length, take, drop}
+use lib.Seq.{drop-at, length-take-le}
+use Rattle.rules.specs.Calls.{readerCall, writerCall, placedAt}
 use Rattle.rules.specs.Calls.Reply.{accepted}
-use Rattle.rules.specs.Messages.{numberAt, mark, sameBytes, zeros, zerosStand, message}
-use Rattle.rules.specs.Refusals.{readerRules}
+use Rattle.rules.specs.Messages.{numberAt, own, encoded, rest}
 use Rattle.rules.specs.declared.Message.{Message}
-use Rattle.message.specs.Encoding.{Bytes, digits, encoded}
-use Rattle.rules.proofs.Refusing.{none-given}
-use Rattle.message.proofs.Numbers.{one-more, one-byte}
+use Rattle.message.specs.Encoding.{Bytes, Words}
+use Rattle.message.proofs.Parts.{numbers, message-own, own-own}
+use Rattle.message.proofs.Standing.{stands-accepted, stands-encoded, none, accepted-stands, encoded-length, written-stands, written}
 
--- Bytes are the digits of their number, however many they are.
-pub digits-of : (xs : List ℕ) → Bytes xs → (from size : ℕ) → from + size ≤ length xs → take size (drop from xs) ≡ digits size (numberAt xs from size)
-unfolding digits
-digits-of xs bytes from zero h = refl
-digits-of xs bytes from (suc n) h =
-    let inside : from + n < length xs = omega arith in
-    let byte : getD xs (from + n) 0 < 256 = bytes (from + n) inside in
-    let more : numberAt xs from (suc n) ≡ numberAt xs from n * 256 + getD xs (from + n) 0 = rw (← add-one n) (one-more xs from n inside) in
-    let k : n < length (drop from xs) = rw length-drop (omega arith) in
-    rw (more, digits-div (numberAt xs from n) byte, digits-mod (numberAt xs from n) byte, take-suc (drop from xs) n 0, getD-drop)
-    (ap (λ l. l ++ (getD xs (from + n) 0 ∷ [])) (digits-of xs bytes from n (omega arith)))
+-- a message's own fields, with its version, at the front of bytes; behind it stand others
+pub record Returned (version : ℕ) (m : Message) (bytes behind : List ℕ) : Type 0 where
+  pub fields : readerCall bytes ≡ accepted (own m)
+  pub number : numberAt bytes 3 2 ≡ version
+  pub others : rest bytes ≡ behind
 
-same-equal : (xs ys : List ℕ) → sameBytes xs ys ≡ true → xs ≡ ys
-same-equal [] [] e = refl
-same-equal [] (y ∷ ys) e = clash e refl
-same-equal (x ∷ xs) [] e = clash e refl
-same-equal (x ∷ xs) (y ∷ ys) e =
-    let t = and-eq-true-iff (eqb x y) (sameBytes xs ys) .0 e in
-    ap₂ (λ b l. b ∷ l) (eqb-true x y (t .0)) (same-equal xs ys (t .1))
+-- Reading at the place, in the slice that an accepted write leaves behind, returns the fields and what stood behind them.
+pub read-written : (version : ℕ) (m : Message) (slice : List ℕ) (at : ℕ) → Words m → writerCall version m slice at .reply ≡ accepted tt
+    → Returned version m (drop at (writerCall version m slice at .slice)) (drop (at + 20) slice)
+read-written version m slice at w e =
+    let behind = drop (at + 20) slice in
+    let o = written version m slice at e in
+    let n = o .0 in
+    let s = written-stands version m behind (not-false _ (n .0)) (not-false _ (n .1 .0)) (not-false _ (n .1 .1 .0)) w in
+    let room : at + 20 ≤ length slice = ltb-false (length slice) (at + 20) (n .1 .1 .1 .0) in
+    let size = encoded-length version m in
+    let there : drop at (writerCall version m slice at .slice) ≡ encoded version m ++ behind =
+    ap (drop at) (o .1) ∙ drop-at (take at slice) _ at (length-take-le at slice (omega arith)) ∙ ap (λ k. encoded version m ++ drop (at + k) slice) size
+    in
+    rw there (record {
+      fields = stands-accepted version (encoded version m ++ behind) m s;
+      number = s .numbered;
+      others = drop-at (encoded version m) behind 20 size;
+    })
 
-byte-seven : (xs : List ℕ) (kind : ℕ) → zerosStand xs kind ≡ true → getD xs 7 0 ≡ 0
-unfolding zerosStand zeros
-byte-seven xs kind e = eqb-true (getD xs 7 0) 0 (and-eq-true-iff (eqb (getD xs 7 0) 0) _ .0 e .0)
+-- What was read has its own fields alone.
+pub read-own : (xs : List ℕ) (m : Message) → readerCall xs ≡ accepted m → own m ≡ m
+read-own xs m e =
+    let same = none xs m e .1 in
+    ap own (sym same ∙ sym (message-own xs)) ∙ own-own (numbers xs) ∙ message-own xs ∙ same
 
--- mark, version, kind, byte 6, byte 7 and the three numbers
-parts : (xs : List ℕ) → take 20 xs
-    ≡ take 3 xs ++ take 2 (drop 3 xs) ++ take 1 (drop 5 xs) ++ take 1 (drop 6 xs) ++ take 1 (drop 7 xs) ++ take 4 (drop 8 xs) ++ take 4 (drop 12 xs) ++ take 4 (drop 16 xs)
-parts xs = rw (take-add 16 4 xs, take-add 12 4 xs, take-add 8 4 xs, take-add 7 1 xs, take-add 6 1 xs, take-add 5 1 xs, take-add 3 2 xs)
+-- The bytes of a message that was read are those that it is written as.
+pub accepted-bytes : (xs : List ℕ) → Bytes xs → (m : Message) → readerCall xs ≡ accepted m → encoded (numberAt xs 3 2) m ≡ take 20 xs
+accepted-bytes xs bytes m e = stands-encoded (numberAt xs 3 2) xs m (accepted-stands xs m e) bytes
 
--- The twenty bytes of an accepted message are those of its fields.
-pub accepted-bytes : (xs : List ℕ) → Bytes xs → (m : Message) → readerCall xs ≡ accepted m → take 20 xs ≡ encoded m
-unfolding readerCall encoded message
-accepted-bytes xs bytes m e =
-    let none = none-given (readerRules xs) (message xs) m e in
-    let long : 20 ≤ length xs = ltb-false (length xs) 20 (none .0 .0) in
-    let marked = same-equal (take 3 xs) mark (not-false _ (none .0 .1 .0)) in
-    let version = eqb-true (numberAt xs 3 2) 1 (not-false _ (none .0 .1 .1 .0)) in
-    let seven = one-byte xs 7 (omega arith) ∙ byte-seven xs _ (not-false _ (none .0 .1 .1 .1 .1 .0)) in
-    let part = digits-of xs bytes in
-    rw (
-      parts xs,
-      marked,
-      part 3 2 (omega arith),
-      version,
-      part 5 1 (omega arith),
-      part 6 1 (omega arith),
-      part 7 1 (omega arith),
-      seven,
-      part 8 4 (omega arith),
-      part 12 4 (omega arith),
-      part 16 4 (omega arith),
-    )
-    (ap encoded (none .1))
+-- Writing what was read, with its version, into any slice and at any place with room: accepted, and the same bytes stand there.
+pub written-read : (xs : List ℕ) → Bytes xs → (m : Message) → readerCall xs ≡ accepted m → (slice : List ℕ) (at : ℕ) → at + 20 ≤ length slice
+    → writerCall (numberAt xs 3 2) m slice at ≡ record { reply = accepted tt; slice = placedAt at (take 20 xs) slice }
+unfolding writerCall
+written-read xs bytes m e slice at h =
+    let s = accepted-stands xs m e in
+    rw (s .current, s .known, s .fits, le-ltb (length slice) (at + 20) h, accepted-bytes xs bytes m e)
 
 -- Where two are accepted as the same message, their twenty bytes are the same.
 pub same-message : (xs ys : List ℕ) → Bytes xs → Bytes ys → (m : Message) → readerCall xs ≡ accepted m → readerCall ys ≡ accepted m → take 20 xs ≡ take 20 ys
-same-message xs ys byteX byteY m x y = accepted-bytes xs byteX m x ∙ sym (accepted-bytes ys byteY m y)
+same-message xs ys byteX byteY m x y =
+    let one = eqb-true (numberAt xs 3 2) 1 (accepted-stands xs m x .current) in
+    let other = eqb-true (numberAt ys 3 2) 1 (accepted-stands ys m y .current) in
+    sym (accepted-bytes xs byteX m x) ∙ ap (λ version. encoded version m) (one ∙ sym other) ∙ accepted-bytes ys byteY m y
