@@ -74,9 +74,10 @@ fn input() -> Result<Vec<u8>, String> {
 }
 
 fn output(bytes: &[u8]) -> Result<(), String> {
-    io::stdout()
-        .lock()
+    let mut output = io::stdout().lock();
+    output
         .write_all(bytes)
+        .and_then(|()| output.flush())
         .map_err(|error| format!("standard output: {error}\n"))
 }
 
