@@ -5,7 +5,7 @@ use super::slip::{unended, SLIPS};
 use crate::generate::random::Random;
 
 pub fn pages(seed: u64, mut random: Random) -> Vec<u8> {
-    let count = random.between(20_000, 40_000);
+    let count = random.between(20_000, 90_000);
     let mut text = lines::some(&mut random, count);
     let (_, slip) = random.pick(SLIPS);
     let words = lines::words(&mut random);
