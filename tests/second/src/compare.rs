@@ -1,25 +1,81 @@
-//! Holds a console program against the second desk on many generated files.
+//! Holds a program against the second one on many generated files.
 
 use std::fs;
-use std::io::{self, Read, Write};
+use std::io::{self, Write};
 use std::path::{Path, PathBuf};
-use std::process::{Command, ExitStatus, Stdio};
 use std::sync::atomic::{AtomicU64, Ordering};
 use std::thread;
 
 use crate::console;
-use crate::generate::{generate, numbered, Kind};
-use crate::rules::Rules;
+use crate::generate::{generate, numbered, numbered_text, Kind};
+use crate::limits::MESSAGE_LENGTH;
+use crate::outcome::Outcome;
+use crate::rules::{Faults, Rules, DESK_FAULTS, TEXT_FAULTS};
+use crate::run::{run, Handing};
+use crate::text;
 
-/// How many console programs run at a time.
+/// How many programs run at a time.
 const WORKERS: usize = 2;
 
+/// What there is a second program for.
+#[derive(Clone, Copy, Debug, PartialEq, Eq)]
+pub enum Task {
+    Desk,
+    FromText,
+}
+
+impl Task {
+    /// The command of the second program.
+    pub fn name(self) -> &'static str {
+        match self {
+            Task::Desk => "desk",
+            Task::FromText => "from-text",
+        }
+    }
+
+    pub fn faults(self) -> &'static Faults {
+        match self {
+            Task::Desk => DESK_FAULTS,
+            Task::FromText => TEXT_FAULTS,
+        }
+    }
+
+    /// Kind and seed of a numbered file of a run.
+    pub fn numbered(self, start: u64, number: u64) -> (Kind, u64) {
+        match self {
+            Task::Desk => numbered(start, number),
+            Task::FromText => numbered_text(start, number),
+        }
+    }
+
+    /// What the second program leaves behind on a file.
+    pub fn outcome(self, file: &[u8], rules: Rules) -> Outcome {
+        match self {
+            Task::Desk => Outcome::sound(console::output(file, rules)),
+            Task::FromText => text::from_text(file, rules),
+        }
+    }
+
+    /// The first place where two outputs differ, from each side.
+    fn first_difference(self, program: &[u8], second: &[u8]) -> Option<String> {
+        match self {
+            Task::Desk => first_difference("line", lines(program), lines(second)),
+            Task::FromText => first_difference(
+                "message",
+                program.chunks(MESSAGE_LENGTH),
+                second.chunks(MESSAGE_LENGTH),
+            ),
+        }
+    }
+}
+
 pub struct Comparison {
-    /// The console's command and its arguments.
-    pub console: Vec<String>,
+    pub task: Task,
+    /// The program's command and its arguments.
+    pub program: Vec<String>,
     pub start: u64,
     pub files: u64,
-    /// The fault planted in the second desk, if any, for the printed commands.
+    /// The fault planted in the second program, if any, for the printed commands.
     pub fault: Option<String>,
     pub rules: Rules,
     /// Where the files that differ are kept.
@@ -38,7 +94,7 @@ impl Comparison {
                     if number >= self.files {
                         break;
                     }
-                    let (kind, seed) = numbered(self.start, number);
+                    let (kind, seed) = self.task.numbered(self.start, number);
                     if let Some(difference) = self.difference(kind, seed) {
                         differing.fetch_add(1, Ordering::Relaxed);
                         print(&difference);
@@ -57,20 +113,19 @@ impl Comparison {
     /// What differs on one file, as text, or nothing.
     fn difference(&self, kind: Kind, seed: u64) -> Option<String> {
         let file = generate(kind, seed);
-        let second = second_output(&file, self.rules);
-        let (what, console) = match self.console_output(&file) {
-            Ok((console, status)) => match first_difference(&console, &second) {
-                Some(lines) => (lines, console),
-                None if status.success() => return None,
-                None => (format!("the console ended with {status}\n"), console),
-            },
-            Err(error) => (format!("the console did not run: {error}\n"), Vec::new()),
+        let handing = Handing::drawn(seed, file.len());
+        let second = self.task.outcome(&file, self.rules);
+        let program = run(&self.program, &file, handing);
+        let what = match &program {
+            Ok(program) => self.first_difference(program, &second)?,
+            Err(error) => format!("the program did not run: {error}\n"),
         };
-        let mut text = format!("differs: kind {}, seed {seed}\n{what}", kind.name());
+        let name = kind.name();
+        let mut text = format!("differs: kind {name}, seed {seed}, handed {handing}\n{what}");
         text += &self.commands(kind, seed);
         if let Some(directory) = &self.keep {
-            let name = format!("{}-{seed}", kind.name());
-            text += &match keep(directory, &name, &file, &console, &second) {
+            let name = format!("{name}-{seed}");
+            text += &match keep(directory, &name, &file, program.ok().as_ref(), &second) {
                 Ok(()) => format!("kept: {}\n", directory.join(name).display()),
                 Err(error) => format!("not kept: {error}\n"),
             };
@@ -78,36 +133,27 @@ impl Comparison {
         Some(text)
     }
 
-    /// The file is written by a thread of its own, so that neither pipe waits
-    /// for the other.
-    fn console_output(&self, file: &[u8]) -> io::Result<(Vec<u8>, ExitStatus)> {
-        let (command, arguments) = match self.console.split_first() {
-            Some(split) => split,
-            None => return Err(io::Error::other("no console command")),
+    fn first_difference(&self, program: &Outcome, second: &Outcome) -> Option<String> {
+        if program == second {
+            return None;
+        }
+        let output = self
+            .task
+            .first_difference(&program.output, &second.output)
+            .unwrap_or_default();
+        let errors = first_difference(
+            "standard error, line",
+            lines(&program.errors),
+            lines(&second.errors),
+        );
+        let errors = errors.unwrap_or_default();
+        let status = if program.status == second.status {
+            String::new()
+        } else {
+            let (one, other) = (status(program), status(second));
+            format!("status, program: {one}\nstatus, second:  {other}\n")
         };
-        let mut child = Command::new(command)
-            .args(arguments)
-            .stdin(Stdio::piped())
-            .stdout(Stdio::piped())
-            .spawn()?;
-        let input = child.stdin.take();
-        let output = child.stdout.take();
-        let mut console = Vec::new();
-        let read = thread::scope(|scope| {
-            scope.spawn(move || {
-                if let Some(mut input) = input {
-                    // A console that stops reading shows by its output.
-                    let _ = input.write_all(file);
-                }
-            });
-            match output {
-                Some(mut output) => output.read_to_end(&mut console),
-                None => Ok(0),
-            }
-        });
-        let status = child.wait()?;
-        read?;
-        Ok((console, status))
+        Some(output + &errors + &status)
     }
 
     /// The commands that run both sides on the file again.
@@ -115,50 +161,55 @@ impl Comparison {
         let own = std::env::current_exe().unwrap_or_else(|_| PathBuf::from("second"));
         let own = quoted(&own.to_string_lossy());
         let generate = format!("{own} generate {} {seed}", kind.name());
-        let console: Vec<String> = self.console.iter().map(|word| quoted(word)).collect();
+        let program: Vec<String> = self.program.iter().map(|word| quoted(word)).collect();
         let fault = match &self.fault {
             Some(name) => format!(" --fault {name}"),
             None => String::new(),
         };
         format!(
-            "again: {generate} | {}\nsecond: {generate} | {own} desk{fault}\n",
-            console.join(" ")
+            "again: {generate} | {}\nsecond: {generate} | {own} {}{fault}\n",
+            program.join(" "),
+            self.task.name()
         )
     }
 }
 
-/// What the second desk prints for a file.
-pub fn second_output(file: &[u8], rules: Rules) -> Vec<u8> {
-    let mut output = Vec::new();
-    // Writing to memory does not fail.
-    let _ = console::run(file, rules, &mut output);
-    output
+fn lines(text: &[u8]) -> impl Iterator<Item = &[u8]> {
+    text.split(|&byte| byte == b'\n')
 }
 
-/// The first line that differs, from each side, counted from 0.
-pub fn first_difference(console: &[u8], second: &[u8]) -> Option<String> {
-    if console == second {
-        return None;
-    }
-    let mut console = console.split(|&byte| byte == b'\n');
-    let mut second = second.split(|&byte| byte == b'\n');
-    let mut number = 0;
-    loop {
-        let (one, other) = (console.next(), second.next());
-        if one != other || one.is_none() {
+/// The first piece that differs, from each side, counted from 0.
+fn first_difference<'a>(
+    piece: &str,
+    mut program: impl Iterator<Item = &'a [u8]>,
+    mut second: impl Iterator<Item = &'a [u8]>,
+) -> Option<String> {
+    for number in 0.. {
+        let (one, other) = (program.next(), second.next());
+        if one != other {
             let (one, other) = (shown(one), shown(other));
             return Some(format!(
-                "line {number}, console: {one}\nline {number}, second:  {other}\n"
+                "{piece} {number}, program: {one}\n{piece} {number}, second:  {other}\n"
             ));
         }
-        number += 1;
+        if one.is_none() {
+            break;
+        }
+    }
+    None
+}
+
+fn shown(piece: Option<&[u8]>) -> String {
+    match piece {
+        Some(piece) => format!("\"{}\"", piece.escape_ascii()),
+        None => String::from("(none)"),
     }
 }
 
-fn shown(line: Option<&[u8]>) -> String {
-    match line {
-        Some(line) => format!("\"{}\"", line.escape_ascii()),
-        None => String::from("(no line)"),
+fn status(outcome: &Outcome) -> String {
+    match outcome.status {
+        Some(status) => status.to_string(),
+        None => String::from("(ended by a signal)"),
     }
 }
 
@@ -166,13 +217,18 @@ fn keep(
     directory: &Path,
     name: &str,
     file: &[u8],
-    console: &[u8],
-    second: &[u8],
+    program: Option<&Outcome>,
+    second: &Outcome,
 ) -> io::Result<()> {
     fs::create_dir_all(directory)?;
-    fs::write(directory.join(format!("{name}.messages")), file)?;
-    fs::write(directory.join(format!("{name}.console")), console)?;
-    fs::write(directory.join(format!("{name}.second")), second)
+    let write = |end: &str, bytes: &[u8]| fs::write(directory.join(format!("{name}.{end}")), bytes);
+    write("input", file)?;
+    if let Some(program) = program {
+        write("program", &program.output)?;
+        write("program-errors", &program.errors)?;
+    }
+    write("second", &second.output)?;
+    write("second-errors", &second.errors)
 }
 
 /// A word as a shell takes it.

@@ -16,7 +16,15 @@ enum Outcome {
     Stepped { from: u32, target: u32 },
 }
 
-pub fn run(input: &[u8], rules: Rules, output: &mut impl Write) -> io::Result<()> {
+/// What the console prints for a file.
+pub fn output(file: &[u8], rules: Rules) -> Vec<u8> {
+    let mut output = Vec::new();
+    // Writing to memory does not fail.
+    let _ = print(file, rules, &mut output);
+    output
+}
+
+fn print(input: &[u8], rules: Rules, output: &mut impl Write) -> io::Result<()> {
     let mut desk = Desk::fresh(rules);
     let outcomes = take_all(input, &mut desk);
     for outcome in outcomes {

@@ -1,5 +1,6 @@
-//! A second desk, written from document 01 alone and by the plainest means, with
-//! a generator of message files and a comparison with another console program.
+//! A second desk, written from document 01 alone and by the plainest means, and a
+//! second reader of messages as text, with a generator of files for both and a
+//! comparison with other programs.
 
 pub mod board;
 pub mod check;
@@ -9,6 +10,9 @@ pub mod desk;
 pub mod generate;
 pub mod limits;
 pub mod message;
+pub mod outcome;
 pub mod refusal;
 pub mod request;
 pub mod rules;
+pub mod run;
+pub mod text;

@@ -1,18 +1,24 @@
 //! The commands of the second desk.
 
-use std::io::{self, BufWriter, Read, Write};
+use std::io::{self, Read, Write};
 use std::path::PathBuf;
 use std::process::ExitCode;
 
-use second::compare::Comparison;
+use second::check;
+use second::compare::{Comparison, Task};
 use second::generate::{self, Kind};
-use second::rules::{Rules, FAULTS};
-use second::{check, console};
+use second::outcome::Outcome;
+use second::rules::Rules;
+use second::text;
 
 const USAGE: &str = "\
 usage: second desk [--fault NAME] < messages
+       second from-text [--fault NAME] < lines > messages
+       second to-text < messages > lines
        second generate lesson|damage|edge|long SEED > messages
+       second generate lines|slip|range|wide|pages SEED > lines
        second compare [--seed S] [--files N] [--fault NAME] [--keep DIRECTORY] -- CONSOLE [ARGUMENT..]
+       second compare-text [--seed S] [--files N] [--fault NAME] [--keep DIRECTORY] -- FROM-TEXT [ARGUMENT..]
        second check
 ";
 
@@ -26,9 +32,12 @@ fn main() -> ExitCode {
         .collect();
     let words: Vec<&str> = words.iter().map(String::as_str).collect();
     let result = match words.split_first() {
-        Some((&"desk", rest)) => desk(rest),
+        Some((&"desk", rest)) => second(Task::Desk, rest),
+        Some((&"from-text", rest)) => second(Task::FromText, rest),
+        Some((&"to-text", [])) => input().and_then(|file| finish(&text::to_text(&file))),
         Some((&"generate", rest)) => generate(rest),
-        Some((&"compare", rest)) => compare(rest),
+        Some((&"compare", rest)) => compare(Task::Desk, rest),
+        Some((&"compare-text", rest)) => compare(Task::FromText, rest),
         Some((&"check", [])) => Ok(status(check::run())),
         _ => Err(String::from(USAGE)),
     };
@@ -46,21 +55,38 @@ fn status(is_good: bool) -> ExitCode {
     }
 }
 
-fn desk(words: &[&str]) -> Result<ExitCode, String> {
+/// Runs a second program from standard input.
+fn second(task: Task, words: &[&str]) -> Result<ExitCode, String> {
     let rules = match words {
         [] => Rules::sound(),
-        ["--fault", name] => fault(name)?,
+        ["--fault", name] => fault(task, name)?,
         _ => return Err(String::from(USAGE)),
     };
+    finish(&task.outcome(&input()?, rules))
+}
+
+fn input() -> Result<Vec<u8>, String> {
     let mut input = Vec::new();
     io::stdin()
         .read_to_end(&mut input)
         .map_err(|error| format!("standard input: {error}\n"))?;
-    let mut output = BufWriter::new(io::stdout().lock());
-    console::run(&input, rules, &mut output)
+    Ok(input)
+}
+
+fn output(bytes: &[u8]) -> Result<(), String> {
+    let mut output = io::stdout().lock();
+    output
+        .write_all(bytes)
         .and_then(|()| output.flush())
-        .map_err(|error| format!("standard output: {error}\n"))?;
-    Ok(ExitCode::SUCCESS)
+        .map_err(|error| format!("standard output: {error}\n"))
+}
+
+fn finish(outcome: &Outcome) -> Result<ExitCode, String> {
+    output(&outcome.output)?;
+    io::stderr()
+        .write_all(&outcome.errors)
+        .map_err(|error| format!("standard error: {error}\n"))?;
+    Ok(status(outcome.status == Some(0)))
 }
 
 fn generate(words: &[&str]) -> Result<ExitCode, String> {
@@ -68,19 +94,16 @@ fn generate(words: &[&str]) -> Result<ExitCode, String> {
         return Err(String::from(USAGE));
     };
     let kind = Kind::named(kind).ok_or_else(|| format!("no kind {kind}\n{USAGE}"))?;
-    let file = generate::generate(kind, number(seed)?);
-    io::stdout()
-        .lock()
-        .write_all(&file)
-        .map_err(|error| format!("standard output: {error}\n"))?;
+    output(&generate::generate(kind, number(seed)?))?;
     Ok(ExitCode::SUCCESS)
 }
 
-fn compare(words: &[&str]) -> Result<ExitCode, String> {
+fn compare(task: Task, words: &[&str]) -> Result<ExitCode, String> {
     let end = words.iter().position(|word| *word == "--");
     let (options, command) = words.split_at(end.ok_or(USAGE)?);
     let mut comparison = Comparison {
-        console: command[1..].iter().map(|word| word.to_string()).collect(),
+        task,
+        program: command[1..].iter().map(|word| word.to_string()).collect(),
         start: 0,
         files: 400,
         fault: None,
@@ -93,23 +116,23 @@ fn compare(words: &[&str]) -> Result<ExitCode, String> {
             ["--files", files] => comparison.files = number(files)?,
             ["--keep", directory] => comparison.keep = Some(PathBuf::from(directory)),
             ["--fault", name] => {
-                comparison.rules = fault(name)?;
+                comparison.rules = fault(task, name)?;
                 comparison.fault = Some(name.to_string());
             }
             _ => return Err(String::from(USAGE)),
         }
     }
     // A comparison of nothing would agree with anything.
-    if comparison.console.is_empty() || comparison.files == 0 {
+    if comparison.program.is_empty() || comparison.files == 0 {
         return Err(String::from(USAGE));
     }
     Ok(status(comparison.run() == 0))
 }
 
-fn fault(name: &str) -> Result<Rules, String> {
-    Rules::named(name).ok_or_else(|| {
+fn fault(task: Task, name: &str) -> Result<Rules, String> {
+    Rules::named(task.faults(), name).ok_or_else(|| {
         let mut text = format!("no fault {name}; there are:\n");
-        for (_, name, what) in FAULTS {
+        for (_, name, what) in task.faults() {
             text += &format!("  {name}: {what}\n");
         }
         text

@@ -5,7 +5,7 @@ use crate::limits::{HIGHEST_SCORE, LAST_TICK, LAST_TOPIC, MESSAGE_LENGTH};
 use crate::refusal::Refusal;
 
 const MARK: &[u8; 3] = b"DTR";
-const VERSION: u32 = 1;
+pub const VERSION: u32 = 1;
 
 #[derive(Clone, Copy, Debug, PartialEq, Eq)]
 pub enum Message {
@@ -98,7 +98,7 @@ fn fields(kind: u8, front: &[u8]) -> Message {
     }
 }
 
-fn is_in_range(message: &Message) -> bool {
+pub fn is_in_range(message: &Message) -> bool {
     match *message {
         Message::Board(board) => board.is_in_range(),
         Message::Request { topic, score, .. } => is_request_in_range(topic, score),

@@ -1,6 +1,7 @@
 //! The refusal numbers.
 
-/// Number 99 has no case: this desk starts fresh and is never handed in.
+/// Numbers 14 and 99 have no case: nothing here writes into a lent slice, and
+/// this desk starts fresh and is never handed in.
 #[derive(Clone, Copy, Debug, PartialEq, Eq)]
 pub enum Refusal {
     Short = 1,
@@ -16,6 +17,7 @@ pub enum Refusal {
     TargetBelowClock = 11,
     ReplyTooShort = 12,
     NoSuchPlace = 13,
+    NotALine = 15,
 }
 
 impl Refusal {

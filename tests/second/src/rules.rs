@@ -1,9 +1,10 @@
 //! The rules that a planted fault can alter, each beside its fault, and no
-//! fault anywhere else. Without a fault they are document 01's own.
+//! fault anywhere else. Without a fault they are those of the documents.
 
 use std::cmp::Ordering;
 
 use crate::limits::LAST_TICK;
+use crate::refusal::Refusal;
 use crate::request::Request;
 
 #[derive(Clone, Copy, Debug, PartialEq, Eq)]
@@ -17,10 +18,20 @@ pub enum Fault {
     Held,
     Empty,
     Order,
+    Zeros,
+    Wrap,
+    Final,
+    Early,
+    Spaces,
+    Known,
+    Stop,
 }
 
-/// Each fault with its name and what it does.
-pub const FAULTS: [(Fault, &str, &str); 9] = [
+/// Faults, each with its name and what it does.
+pub type Faults = [(Fault, &'static str, &'static str)];
+
+/// The faults of the desk.
+pub const DESK_FAULTS: &Faults = &[
     (
         Fault::Tie,
         "tie",
@@ -60,6 +71,41 @@ pub const FAULTS: [(Fault, &str, &str); 9] = [
     (Fault::Order, "order", "a board is refused by 8 before 7"),
 ];
 
+/// The faults of the reader of text.
+pub const TEXT_FAULTS: &Faults = &[
+    (
+        Fault::Zeros,
+        "zeros",
+        "a number with leading zeros is refused with 15",
+    ),
+    (Fault::Wrap, "wrap", "numbers are taken modulo 2^32"),
+    (
+        Fault::Final,
+        "final",
+        "a last line without its line feed is taken",
+    ),
+    (
+        Fault::Early,
+        "early",
+        "a number that no 32 bits hold is refused with 6 before 15 is asked for",
+    ),
+    (
+        Fault::Spaces,
+        "spaces",
+        "several spaces part two numbers as one does",
+    ),
+    (
+        Fault::Known,
+        "known",
+        "an unknown version or kind is refused with 3 or 4",
+    ),
+    (
+        Fault::Stop,
+        "stop",
+        "the lines behind a refused one are written too",
+    ),
+];
+
 #[derive(Clone, Copy, Debug)]
 pub struct Rules {
     fault: Option<Fault>,
@@ -75,8 +121,8 @@ impl Rules {
     }
 
     /// The rules with the fault of this name, if there is one of it.
-    pub fn named(name: &str) -> Option<Rules> {
-        let (fault, _, _) = FAULTS.iter().find(|(_, known, _)| *known == name)?;
+    pub fn named(faults: &Faults, name: &str) -> Option<Rules> {
+        let (fault, _, _) = faults.iter().find(|(_, known, _)| *known == name)?;
         Some(Rules::with(*fault))
     }
 
@@ -150,5 +196,54 @@ impl Rules {
 
     pub fn counts_boards_first(&self) -> bool {
         !self.has(Fault::Order)
+    }
+
+    /// Decimal text is one digit or more, leading zeros allowed.
+    pub fn is_decimal(&self, word: &[u8]) -> bool {
+        let has_leading_zero = word.len() > 1 && word.starts_with(b"0");
+        let is_allowed = !(has_leading_zero && self.has(Fault::Zeros));
+        !word.is_empty() && word.iter().all(u8::is_ascii_digit) && is_allowed
+    }
+
+    /// The number that some digits say, or the highest of 64 bits where it is
+    /// above that: out of every range all the same.
+    pub fn number(&self, digits: &[u8]) -> u64 {
+        let values = digits.iter().map(|digit| u64::from(digit - b'0'));
+        if self.has(Fault::Wrap) {
+            return values.fold(0, |number, digit| (number * 10 + digit) % (1 << 32));
+        }
+        values.fold(0, |number: u64, digit| {
+            number.saturating_mul(10).saturating_add(digit)
+        })
+    }
+
+    pub fn takes_no_line_feed_at_the_end(&self) -> bool {
+        self.has(Fault::Final)
+    }
+
+    /// Whether the form of a line is decided before any number's range.
+    pub fn asks_for_form_first(&self) -> bool {
+        !self.has(Fault::Early)
+    }
+
+    /// The words of a line: one space between.
+    pub fn words<'a>(&self, line: &'a [u8]) -> Vec<&'a [u8]> {
+        line.split(|&byte| byte == b' ')
+            .filter(|word| !(word.is_empty() && self.has(Fault::Spaces)))
+            .collect()
+    }
+
+    /// What a line is refused with whose version or kind is unknown; in the
+    /// reader of messages that is a refusal of its own.
+    pub fn unknown(&self, in_messages: Refusal) -> Refusal {
+        if self.has(Fault::Known) {
+            in_messages
+        } else {
+            Refusal::NotALine
+        }
+    }
+
+    pub fn stops_at_a_refusal(&self) -> bool {
+        !self.has(Fault::Stop)
     }
 }

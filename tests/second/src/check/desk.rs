@@ -1,14 +1,16 @@
-//! The self test: document 01's example and edges, the refusals, the faults.
+//! The desk: document 01's example and edges, the refusals, the faults.
 
+use super::{faults, files, Tally};
 use crate::board::Board;
-use crate::compare::{first_difference, second_output};
+use crate::compare::Task;
+use crate::console;
 use crate::desk::{Desk, Step};
-use crate::generate::{generate, numbered, Kind};
+use crate::generate::{generate, Kind};
 use crate::limits::{LAST_TICK, REPLY_LENGTH};
 use crate::message::{self, Message};
 use crate::refusal::Refusal;
 use crate::request::Request;
-use crate::rules::{Rules, FAULTS};
+use crate::rules::Rules;
 
 /// How many generated files a fault has to show in.
 const FILES: u64 = 64;
@@ -26,34 +28,13 @@ refused 7 11
 held 1
 ";
 
-#[derive(Default)]
-struct Tally {
-    passed: u32,
-    failed: u32,
-}
-
-impl Tally {
-    fn check(&mut self, name: &str, holds: bool) {
-        if holds {
-            self.passed += 1;
-        } else {
-            self.failed += 1;
-            println!("failed: {name}");
-        }
-    }
-}
-
-/// Prints what failed and the sum, and returns whether all passed.
-pub fn run() -> bool {
-    let mut tally = Tally::default();
-    example(&mut tally);
-    definitions(&mut tally);
-    lists(&mut tally);
-    calls(&mut tally);
-    reader(&mut tally);
-    files(&mut tally);
-    println!("{} passed, {} failed", tally.passed, tally.failed);
-    tally.failed == 0
+pub fn run(tally: &mut Tally) {
+    example(tally);
+    definitions(tally);
+    lists(tally);
+    calls(tally);
+    reader(tally);
+    generated(tally);
 }
 
 fn board(window: u32, slide: u32, k: u32) -> Board {
@@ -85,12 +66,11 @@ fn ids(entries: &[Request]) -> Vec<u32> {
 }
 
 fn example(tally: &mut Tally) {
-    let output = second_output(&generate(Kind::Lesson, 0), Rules::sound());
-    let difference = first_difference(DOCUMENT_01.as_bytes(), &output);
-    tally.check("document 01's example", difference.is_none());
-    let empty = second_output(&generate(Kind::Damage, 0), Rules::sound());
+    let output = console::output(&generate(Kind::Lesson, 0), Rules::sound());
+    tally.check("document 01's example", output == DOCUMENT_01.as_bytes());
+    let empty = console::output(&generate(Kind::Damage, 0), Rules::sound());
     tally.check("empty input", empty == b"held 0\n");
-    let short = second_output(b"DTR", Rules::sound());
+    let short = console::output(b"DTR", Rules::sound());
     tally.check("short input", short == b"refused 0 1\nheld 0\n");
 }
 
@@ -205,30 +185,15 @@ fn reader(tally: &mut Tally) {
 }
 
 /// Every refusal of the console and every fault shows in the first files.
-fn files(tally: &mut Tally) {
-    let files: Vec<(Kind, u64, Vec<u8>, Vec<u8>)> = (0..FILES)
-        .map(|number| {
-            let (kind, seed) = numbered(0, number);
-            let file = generate(kind, seed);
-            let output = second_output(&file, Rules::sound());
-            (kind, seed, file, output)
-        })
-        .collect();
+fn generated(tally: &mut Tally) {
+    let files = files(Task::Desk, FILES);
     for refusal in 1..=11 {
         let end = format!(" {refusal}");
-        let is_shown = files.iter().any(|(_, _, _, output)| {
-            let mut lines = output.split(|&byte| byte == b'\n');
+        let is_shown = files.iter().any(|file| {
+            let mut lines = file.outcome.output.split(|&byte| byte == b'\n');
             lines.any(|line| line.starts_with(b"refused") && line.ends_with(end.as_bytes()))
         });
         tally.check(&format!("refusal {refusal} in a file"), is_shown);
     }
-    for (fault, name, what) in FAULTS {
-        let shown = files
-            .iter()
-            .find(|(_, _, file, output)| second_output(file, Rules::with(fault)) != *output);
-        if let Some((kind, seed, _, _)) = shown {
-            println!("fault {name} ({what}) shows in {} {seed}", kind.name());
-        }
-        tally.check(&format!("fault {name}"), shown.is_some());
-    }
+    faults(tally, Task::Desk, &files);
 }
