@@ -1,4 +1,4 @@
-//! A second desk, written from document 01 alone and by the plainest means, with
+//! A second desk, written from the documents alone and by the plainest means, with
 //! a generator of message files and a comparison with another console program.
 
 pub mod board;
