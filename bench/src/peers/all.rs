@@ -4,7 +4,7 @@
 use std::cmp::Reverse;
 use std::collections::VecDeque;
 
-use super::{heap_bytes, key, score, Keeper, Key};
+use super::{arrival, heap_bytes, key, score, Keeper, Key};
 use crate::contest::{names, write_block, Board, Entry, Size};
 
 #[derive(Clone)]
@@ -44,7 +44,7 @@ impl Keeper for All {
             if entry.score < lowest || !names(board, entry.topic) {
                 continue;
             }
-            // The place in the queue tells who came later.
+            // The place in the queue tells who came earlier.
             self.best.push(key(entry.score, place as u32));
             if self.best.len() == 2 * k {
                 let (_, last, _) = self
@@ -58,7 +58,7 @@ impl Keeper for All {
         self.best.truncate(k);
         let queue = &self.queue;
         let shown = self.best.iter().map(|&key| {
-            let entry = &queue[start + key as u32 as usize];
+            let entry = &queue[start + arrival(key) as usize];
             [entry.id, entry.score, entry.tick]
         });
         write_block(reply, number, shown)

@@ -11,16 +11,20 @@ pub mod window;
 
 use crate::contest::{Board, Contestant, Entry, Size, Step};
 
-/// The rank of an entry: greater is better. With equal scores the later accepted
+/// The rank of an entry: greater is better. With equal scores the earlier accepted
 /// is better, and no two are equal.
 pub type Key = u64;
 
 fn key(score: u32, arrival: u32) -> Key {
-    Key::from(score) << 32 | Key::from(arrival)
+    Key::from(score) << 32 | Key::from(!arrival)
 }
 
 fn score(key: Key) -> u32 {
     (key >> 32) as u32
+}
+
+fn arrival(key: Key) -> u32 {
+    !(key as u32)
 }
 
 /// An entry as a board of its own needs it.

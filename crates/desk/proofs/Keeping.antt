@@ -13,7 +13,7 @@ use Rattle.lists.proofs.Place.{place-mem}
 use lib.ListN.{length}
 use Rattle.rules.specs.Desk.{limit, need, needs, boardFits, loaded, listed}
 use Rattle.rules.specs.Moments.{reached}
-use Rattle.rules.specs.SharedList.{named, higher, placed}
+use Rattle.rules.specs.SharedList.{named, ahead, placed}
 use Rattle.rules.specs.Cells.{cells}
 use Rattle.rules.specs.Refusals.{entryFits, replyNeed, InOrder}
 use Rattle.rules.specs.Calls.{withList, requested, movedTo, steppedBy}
@@ -59,7 +59,7 @@ module _ (d : Desk) (o : InOrder d) where
   entry-named e h = rw (walks, named-cells (d .time .clock) (placed e (listed d)) come (loaded d))
     where
       come : (x : Entry) → x ∈ placed e (listed d) → x .tick ≤ d .time .clock
-      come x m = elim (List·Memᴰ·cases-cons (place-mem higher e (listed d) m)) [ inl p ↦ omega (arith, h, ap (λ (y : Entry). y .tick) p) | inr k ↦ past x k ]
+      come x m = elim (List·Memᴰ·cases-cons (place-mem ahead e (listed d) m)) [ inl p ↦ omega (arith, h, ap (λ (y : Entry). y .tick) p) | inr k ↦ past x k ]
 
   -- A step that moves the clock, by its parts.
   pub moves : (T : ℕ) (slice : List ℕ) → d .time .clock ≤ T → replyNeed (loaded d) ≤ length slice

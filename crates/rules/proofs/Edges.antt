@@ -36,17 +36,17 @@ threes mask window k T = (to, back)
     back (inl e) = (record { positive = omega arith; multiple = (1, omega arith); atMost = omega arith }, omega arith)
     back (inr e) = (record { positive = omega arith; multiple = (2, omega arith); atMost = omega arith }, omega arith)
 
-later-first : (b : Board) (T tick topic : ℕ) → b .k ≡ 1 → InWindow b T (request 0 7 5 tick topic .entry)
-    → answer b T (request 1 8 5 tick topic ∷ request 0 7 5 tick topic ∷ []) ≡ request 1 8 5 tick topic ∷ []
+earlier-first : (b : Board) (T tick topic : ℕ) → b .k ≡ 1 → InWindow b T (request 0 7 5 tick topic .entry)
+    → answer b T (request 1 8 5 tick topic ∷ request 0 7 5 tick topic ∷ []) ≡ request 0 7 5 tick topic ∷ []
 unfolding answer better inWindow
-later-first b T tick topic k w =
+earlier-first b T tick topic k w =
     rw (w .counts, lt-ltb tick T (w .before), le-leb T (tick + b .window) (w .reaches), k)
 
-id8-only : (b : Board) (T tick topic : ℕ) → b .k ≡ 1 → InWindow b T (request 0 7 5 tick topic .entry) → (shown : List Accepted)
-    → Answer b T (request 1 8 5 tick topic ∷ request 0 7 5 tick topic ∷ []) shown ↔ (shown ≡ request 1 8 5 tick topic ∷ [])
-id8-only b T tick topic k w shown = (
-  λ a. answer-only b T xs turn shown a ∙ later-first b T tick topic k w,
-  λ e. subst (Answer b T xs) (later-first b T tick topic k w ∙ sym e) (answer-is b T xs turn),
+id7-only : (b : Board) (T tick topic : ℕ) → b .k ≡ 1 → InWindow b T (request 0 7 5 tick topic .entry) → (shown : List Accepted)
+    → Answer b T (request 1 8 5 tick topic ∷ request 0 7 5 tick topic ∷ []) shown ↔ (shown ≡ request 0 7 5 tick topic ∷ [])
+id7-only b T tick topic k w shown = (
+  λ a. answer-only b T xs turn shown a ∙ earlier-first b T tick topic k w,
+  λ e. subst (Answer b T xs) (earlier-first b T tick topic k w ∙ sym e) (answer-is b T xs turn),
 )
   where
     xs : List Accepted
@@ -176,7 +176,7 @@ edges = record {
   E2 = threes;
   E3 = λ b id score topic t h. (record { counts = t; before = lit< tt; reaches = omega arith }, λ w. omega (arith, w .before));
   E4 = λ b e t h z. (record { counts = t; before = omega arith; reaches = omega arith }, λ w. omega (arith, w .reaches));
-  E5 = id8-only;
+  E5 = id7-only;
   E6 =
       λ k arrival id score h xs. (
         λ o. none-at-8 k (o .2),

@@ -1,18 +1,19 @@
 -- Windows and ranks: each test is its sentence; better is an order in which no two accepted requests tie; the answer is the best k of the window.
-use mathlib.Core.Path.{_≡_, refl, sym, _∙_}
+use mathlib.Core.Path.{_≡_, sym, _∙_}
 use mathlib.Core.List.{List, [], _∷_}
-use mathlib.Core.Bool.{Bool, true, false, _&&_, _||_, and-eq-true-iff}
+use mathlib.Core.Bool.{Bool, true, false, and-eq-true-iff}
 use mathlib.Core.Logic.{inl, inr, _↔_}
-use Prim.Native.Nat.{ℕ, _+_, _<_}
+use Prim.Native.Nat.{ℕ, _+_, _≤_, _<_}
 use native.Mathlib.Omega.{arith}
-use borrow.Author.Tests.{ltb-true, ltb-false, lt-ltb, eqb-true, eq-eqb, leb-true, le-leb}
-use lib.Dec.{ltb, eqb}
+use borrow.Author.Tests.{ltb-true, ltb-false, lt-ltb, eqb-true, eq-eqb, leb-true, leb-false, le-leb}
+use lib.Dec.{ltb}
 use lib.ListN.{length}
 use Rattle.lists.specs.Views.{_∈_}
 use Rattle.lists.specs.Order.{ranked, Strict, Falling}
-use Rattle.lists.proofs.Bools.{by, clash, untrue, either}
+use Rattle.lists.proofs.Bools.{by, untrue, both-ways}
 use Rattle.lists.proofs.Best.{those-onto, length-those, count-ranked, ranked-mem, falling-place, falling-those, best-first, best-only, best-same}
 use Rattle.rules.specs.Moments.{InWindow, inWindow, Accepted, Better, better, InTurn, windowOf, Answer, answer}
+use Rattle.rules.specs.SharedList.{ahead}
 use Rattle.rules.specs.declared.Board.{Board}
 use Rattle.rules.specs.declared.Entry.{Entry}
 
@@ -30,19 +31,19 @@ pub is-better : (x y : Accepted) → (better x y ≡ true) ↔ Better x y
 unfolding better
 is-better x y = (
   λ h.
-      elim (either (ltb (y .entry .score) (x .entry .score)) (eqb (x .entry .score) (y .entry .score) && ltb (y .arrival) (x .arrival)) h) [
-        | inl p ↦ inl (ltb-true _ _ p)
-        | inr p ↦ let k = and-eq-true-iff _ _ .0 p in inr (eqb-true _ _ (k .0), ltb-true _ _ (k .1))
+      by (ltb (y .entry .score) (x .entry .score))
+      (λ e. inl (ltb-true _ _ e))
+      (λ e. let k = and-eq-true-iff _ _ .0 (rw e at h) in inr (eqb-true _ _ (k .0), ltb-true _ _ (k .1))),
+  λ b.
+      elim b [
+        | inl p ↦ rw (lt-ltb _ _ p)
+        | inr p ↦ by (ltb (y .entry .score) (x .entry .score)) (λ e. rw e) (λ e. rw (e, eq-eqb _ _ (p .0), lt-ltb _ _ (p .1)))
       ],
-  back,
 )
-  where
-    back : Better x y → (ltb (y .entry .score) (x .entry .score) || (eqb (x .entry .score) (y .entry .score) && ltb (y .arrival) (x .arrival))) ≡ true
-    back (inl p) = rw (lt-ltb (y .entry .score) (x .entry .score) p)
-    back (inr p) =
-        by (ltb (y .entry .score) (x .entry .score))
-        (λ e. rw e)
-        (λ e. rw (e, eq-eqb (x .entry .score) (y .entry .score) (p .0), lt-ltb (y .arrival) (x .arrival) (p .1)))
+
+pub not-above : (x y : Accepted) → Better x y → y .entry .score ≤ x .entry .score
+not-above x y (inl p) = omega arith
+not-above x y (inr p) = omega (arith, p .0)
 
 onward : (x y z : Accepted) → Better x y → Better y z → Better x z
 onward x y z (inl p) (inl q) = inl (omega arith)
@@ -60,16 +61,21 @@ better-strict = record {
   onward = λ x y z p q. is-better x z .1 (onward x y z (is-better x y .0 p) (is-better y z .0 q));
 }
 
+-- To one that came later, better is what is ahead of it.
+pub better-ahead : (x y : Accepted) → y .arrival < x .arrival → better y x ≡ ahead (y .entry) (x .entry)
+better-ahead x y h =
+    both-ways (better y x) (ahead (y .entry) (x .entry))
+    (λ e. le-leb _ _ (not-above y x (is-better y x .0 e)))
+    (λ e.
+    is-better y x .1 (
+    by (ltb (x .entry .score) (y .entry .score))
+    (λ t. inl (ltb-true _ _ t))
+    (λ t. inr (omega (arith, ltb-false (x .entry .score) (y .entry .score) t, leb-true (x .entry .score) (y .entry .score) e), h))
+    ))
+
 -- Of two requests one is better, unless they are one in score and in arrival: no two accepted requests tie.
 pub one-is-better : (x y : Accepted) → x .arrival < y .arrival → better x y ≡ false → better y x ≡ true
-one-is-better x y h e = is-better y x .1 (later (ltb (x .entry .score) (y .entry .score)) refl)
-  where
-    later : (t : Bool) → ltb (x .entry .score) (y .entry .score) ≡ t → Better y x
-    later true f = inl (ltb-true _ _ f)
-    later false f =
-        by (ltb (y .entry .score) (x .entry .score))
-        (λ g. clash (is-better x y .1 (inl (ltb-true _ _ g))) e)
-        (λ g. inr (omega (arith, ltb-false (x .entry .score) (y .entry .score) f, ltb-false (y .entry .score) (x .entry .score) g), h))
+one-is-better x y h e = is-better y x .1 (inl (leb-false _ _ (sym (better-ahead y x h) ∙ e)))
 
 pub falling-ranked : (xs : List Accepted) → InTurn xs → Falling better (ranked better xs)
 falling-ranked [] h = tt

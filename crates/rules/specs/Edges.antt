@@ -57,9 +57,9 @@ pub record Edges : Type 0 where
       → InWindow b 4 (record { id = id; score = score; tick = 3; topic = topic }) × (InWindow b 4 (record { id = id; score = score; tick = 4; topic = topic }) → ⊥)
   -- window 8: tick 0 is in it at 8, not at 9
   pub E4 : (b : Board) (e : Entry) → names b (e .topic) ≡ true → b .window ≡ 8 → e .tick ≡ 0 → InWindow b 8 e × (InWindow b 9 e → ⊥)
-  -- one tick, score 5, id 7 then id 8, k 1: the answer is 8
+  -- one tick, score 5, id 7 then id 8, k 1: the answer is 7 (document 02, item 2)
   pub E5 : (b : Board) (T tick topic : ℕ) → b .k ≡ 1 → InWindow b T (request 0 7 5 tick topic .entry) → (shown : List Accepted)
-      → Answer b T (request 1 8 5 tick topic ∷ request 0 7 5 tick topic ∷ []) shown ↔ (shown ≡ request 1 8 5 tick topic ∷ [])
+      → Answer b T (request 1 8 5 tick topic ∷ request 0 7 5 tick topic ∷ []) shown ↔ (shown ≡ request 0 7 5 tick topic ∷ [])
   -- window 4, slide 8: a request at tick 3 is not listed, at tick 4 it is
   pub E6 : (k arrival id score : ℕ) → 1 ≤ k → (xs : List Accepted)
       → (OnList (board 1 4 8 k ∷ []) 3 xs (request arrival id score 3 0) → ⊥)

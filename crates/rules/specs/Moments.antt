@@ -56,12 +56,12 @@ pub record Accepted : Type 0 where
 abbrev pub entryOf : Accepted → Entry
 entryOf x = x .entry
 
--- A higher score; with equal scores, the later accepted.
+-- A higher score; with equal scores, the earlier accepted (document 02, item 2).
 abbrev pub Better : Accepted → Accepted → Type 0
-Better x y = (y .entry .score < x .entry .score) ⊎ ((x .entry .score ≡ y .entry .score) × (y .arrival < x .arrival))
+Better x y = (y .entry .score < x .entry .score) ⊎ ((x .entry .score ≡ y .entry .score) × (x .arrival < y .arrival))
 
 unfoldable pub better : Accepted → Accepted → Bool
-better x y = ltb (y .entry .score) (x .entry .score) || (eqb (x .entry .score) (y .entry .score) && ltb (y .arrival) (x .arrival))
+better x y = ltb (y .entry .score) (x .entry .score) || (eqb (x .entry .score) (y .entry .score) && ltb (x .arrival) (y .arrival))
 
 -- All accepted requests, the latest first: each has a higher number than those accepted before it.
 abbrev pub InTurn : List Accepted → Type 0

@@ -2,7 +2,7 @@
 use mathlib.Core.List.{List, [], _∷_, _++_, map}
 use mathlib.Core.Bool.{Bool}
 use Prim.Native.Nat.{ℕ, _+_, _-_, _≤_, _<_}
-use lib.Dec.{ltb}
+use lib.Dec.{leb}
 use lib.ListN.{length, drop, replicate}
 use Rattle.lists.specs.Views.{View, _∈_, count, keep}
 use Rattle.lists.specs.Order.{place}
@@ -39,12 +39,12 @@ views (b ∷ bs) n = map (viewAt b) (moments b n (n + b .window)) ++ views bs n
 unfoldable pub named : List Board → ℕ → List Entry → List Entry
 named boards n es = keep (views boards n) [] es
 
--- A new request stands before the first entry whose score is not above its own: it is the latest accepted.
-abbrev pub higher : Entry → Entry → Bool
-higher y x = ltb (x .score) (y .score)
+-- A new request stands behind its equals, before the first entry whose score is below its own: it is the latest accepted.
+abbrev pub ahead : Entry → Entry → Bool
+ahead y x = leb (x .score) (y .score)
 
 abbrev pub placed : Entry → List Entry → List Entry
-placed e es = place higher e es
+placed e es = place ahead e es
 
 -- The places of the list afterwards: the entries, zeros from the new length up to the old one, and later places as they stood.
 unfoldable pub settled : ℕ → List Entry → List Entry → List Entry

@@ -13,11 +13,11 @@ use Rattle.lists.specs.Order.{ranked, Falling}
 use Rattle.lists.proofs.Laws.{sift-mem}
 use Rattle.lists.proofs.Best.{ranked-mem, falling-sift}
 use Rattle.rules.specs.Desk.{limit, needs, boardFits, loaded, listed, fresh}
-use Rattle.rules.specs.Moments.{Accepted, entryOf, Better, better, InTurn}
+use Rattle.rules.specs.Moments.{Accepted, entryOf, better, InTurn}
 use Rattle.rules.specs.Refusals.{entryFits, fallsFrom, falls, InOrder}
 use Rattle.rules.specs.declared.Time.{Time}
 use Rattle.rules.specs.declared.Desk.{Desk}
-use Rattle.rules.proofs.Ranks.{is-better, falling-ranked}
+use Rattle.rules.proofs.Ranks.{is-better, not-above, falling-ranked}
 use Rattle.rules.proofs.Listing.{list-entries, named-room}
 use Rattle.runs.specs.Ledger.{Ledger, empty, seen, onList, entries, open?}
 
@@ -68,10 +68,6 @@ unfolding fallsFrom
 score-falls x [] h = refl
 score-falls x (y ∷ ys) h =
     rw (le-leb (y .entry .score) (x .entry .score) (not-above x y (is-better x y .0 (h .0 y (List·Memᴰ·head refl))))) (score-falls y ys (h .1))
-  where
-    not-above : (x y : Accepted) → Better x y → y .entry .score ≤ x .entry .score
-    not-above x y (inl p) = omega arith
-    not-above x y (inr p) = omega (arith, p .0)
 
 scores-fall : (xs : List Accepted) → Falling better xs → falls (map entryOf xs) ≡ true
 unfolding falls

@@ -1,12 +1,11 @@
 -- An accepted request: it is placed by score, and what the rule names afterwards is what it names of all requests, the new one with them.
 use mathlib.Core.Path.{_≡_, refl, sym, ap, _∙_}
 use mathlib.Core.List.{List, [], _∷_, map, List·Memᴰ·head, List·Memᴰ·tail, List·Memᴰ·cases-cons}
-use mathlib.Core.Bool.{true, and-false, or-false}
+use mathlib.Core.Bool.{true}
 use mathlib.Core.Logic.{inl, inr}
 use Prim.Native.Nat.{ℕ, _<_}
 use native.Mathlib.Omega.{arith}
-use borrow.Author.Tests.{le-ltb, not-false}
-use lib.Dec.{ltb}
+use borrow.Author.Tests.{not-false}
 use Rattle.lists.specs.Views.{_∈_, sift}
 use Rattle.lists.specs.Order.{place, ranked}
 use Rattle.lists.proofs.Bools.{by, clash}
@@ -16,30 +15,25 @@ use Rattle.lists.proofs.Along.{map-sift}
 use Rattle.lists.proofs.Place.{request}
 use Rattle.rules.specs.Desk.{requestFits}
 use Rattle.rules.specs.Moments.{Accepted, entryOf, better}
-use Rattle.rules.specs.SharedList.{views, named, higher, placed}
+use Rattle.rules.specs.SharedList.{views, named, ahead, placed}
 use Rattle.rules.specs.Refusals.{judged, entryFits}
 use Rattle.rules.specs.Calls.{requested, entryAt, requestCall}
 use Rattle.rules.specs.Calls.Reply.{refused, accepted}
 use Rattle.rules.specs.declared.Desk.{Desk}
 use Rattle.rules.proofs.Refusing.{None}
 use Rattle.rules.proofs.Fitting.{entry-fits}
-use Rattle.rules.proofs.Ranks.{better-strict, falling-ranked}
+use Rattle.rules.proofs.Ranks.{better-ahead, better-strict, falling-ranked}
 use Rattle.runs.specs.Ledger.{Ledger, seen, onList, entries, requestRules, withRequest, arriving}
 use Rattle.runs.proofs.Agreeing.{Sound, listed-request}
 use Rattle.runs.proofs.Settling.{with-list}
 use Rattle.runs.proofs.Calling.{On, asked-alike, ordered}
 
--- To one that came later, better is a higher score.
-later : (x y : Accepted) → y .arrival < x .arrival → better y x ≡ higher (y .entry) (x .entry)
-unfolding better
-later x y h = rw (le-ltb (x .arrival) (y .arrival) (omega arith), and-false) (or-false (ltb (x .entry .score) (y .entry .score)))
-
 place-entries : (x : Accepted) (xs : List Accepted) → ((y : Accepted) → y ∈ xs → y .arrival < x .arrival)
     → map entryOf (place better x xs) ≡ placed (x .entry) (map entryOf xs)
 place-entries x [] h = refl
 place-entries x (y ∷ ys) h =
-    let e = later x y (h y (List·Memᴰ·head refl)) in
-    by (higher (y .entry) (x .entry))
+    let e = better-ahead x y (h y (List·Memᴰ·head refl)) in
+    by (ahead (y .entry) (x .entry))
     (λ t. rw (e ∙ t, t) (ap (λ es. y .entry ∷ es) (place-entries x ys (λ z m. h z (List·Memᴰ·tail m)))))
     (λ t. rw (e ∙ t, t))
 

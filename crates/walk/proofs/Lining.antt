@@ -2,12 +2,12 @@
 use mathlib.Core.Path.{_≡_, refl, sym, ap, subst, _∙_}
 use mathlib.Core.Logic.{_⊎_, inl, inr}
 use mathlib.Core.List.{List, [], _∷_, _++_, map, map-append, append-nil}
-use mathlib.Core.Bool.{true}
+use mathlib.Core.Bool.{true, or-true}
 use Prim.Native.Nat.{ℕ, zero, suc, _+_, _-_, _*_, _/_, _%_, _^_, _≤_, _<_}
 use native.Mathlib.Omega.{arith}
 use native.Mathlib.Numerals.{add-one}
 use native.Mathlib.Nat.{add-comm, zero-mul, two-pow-succ, pow-le-pow-right, mod-lt}
-use borrow.Author.Tests.{ltb-true, ltb-false, lt-ltb, le-ltb, leb-true, leb-false, le-leb}
+use borrow.Author.Tests.{ltb-true, lt-ltb, le-ltb, leb-true, leb-false}
 use lib.Bits.{bitAnd, and-high, and-zero-r}
 use lib.Dec.{eqb, ltb, leb}
 use lib.ListN.{length, take, drop, getD, set, replicate, length-map, length-set, take-append-drop, replicate-append-replicate}
@@ -20,6 +20,7 @@ use Rattle.lists.proofs.Marks.{noted-along}
 use Rattle.lists.proofs.Fronts.{split-same}
 use Rattle.lists.proofs.Turns.{turn, turned}
 use Rattle.rules.specs.Desk.{names, noEntry}
+use Rattle.rules.specs.SharedList.{ahead}
 use Rattle.rules.specs.Cells.{reach, cellViews}
 use Rattle.rules.specs.declared.Board.{Board}
 use Rattle.rules.specs.declared.Entry.{Entry}
@@ -122,8 +123,7 @@ pub record Next (stood : List Entry) (len : ℕ) (new : Entry) (waiting at : ℕ
   pub step : m .at ≤ at + 1
   pub one : suc (len + m .waiting - m .at) ≡ len + waiting - at
 
--- At the list's end the new entry is met with itself.
-module _ (stood : List Entry) (len at : ℕ) (new old : Entry) (short : len ≤ 1024) (k : len ≤ length stood) (in-list : at < len → old ≡ getD stood at noEntry) (at-end : len ≤ at → old ≡ new) where
+module _ (stood : List Entry) (len at : ℕ) (new old : Entry) (short : len ≤ 1024) (k : len ≤ length stood) (in-list : at < len → old ≡ getD stood at noEntry) where
   listed-next : at < len → drop at (take len stood) ≡ old ∷ drop (at + 1) (take len stood)
   listed-next h = rw (in-list h) (turn stood len noEntry k at h)
 
@@ -134,20 +134,18 @@ module _ (stood : List Entry) (len at : ℕ) (new old : Entry) (short : len ≤ 
   new-stands : entryAt stood len new 1024 ≡ new
   new-stands = rw (le-ltb 1024 len short)
 
-  pub next : (waiting : ℕ) → waiting ≤ 1 → at ≤ len → at < len + waiting → Next stood len new waiting at (metAt new waiting old at)
+  pub next : (waiting : ℕ) → waiting ≤ 1 → at ≤ len → at < len + waiting → Next stood len new waiting at (metAt new waiting old at len)
   unfolding metAt
   next zero w a h = record { head = listed-next (omega arith); stands = old-stands (omega arith); inside = omega arith; few = omega arith; step = omega arith; one = omega arith }
   next (suc zero) w a h =
-      by (ltb at len)
+      by (leb len at)
       (λ t.
-      let g = ltb-true at len t in
-      by (leb (old .score) (new .score))
-      (λ s. rw s (record { head = rw (listed-next g, le-ltb _ _ (leb-true _ _ s)); stands = new-stands; inside = a; few = omega arith; step = omega arith; one = omega arith }))
-      (λ s. rw s (record { head = rw (listed-next g, lt-ltb _ _ (leb-false _ _ s)); stands = old-stands g; inside = omega arith; few = omega arith; step = omega arith; one = omega arith })))
+      rw (t, or-true) (record { head = rw (turned stood len noEntry k at (leb-true _ _ t)); stands = new-stands; inside = a; few = omega arith; step = omega arith; one = omega arith }))
       (λ t.
-      let g = ltb-false at len t in
-      let s : leb (old .score) (new .score) ≡ true = rw (at-end g) (le-leb (new .score) (new .score) (omega arith)) in
-      rw s (record { head = rw (turned stood len noEntry k at g); stands = new-stands; inside = a; few = omega arith; step = omega arith; one = omega arith }))
+      let g = leb-false len at t in
+      by (ahead old new)
+      (λ s. rw (t, s) (record { head = rw (listed-next g, s); stands = old-stands g; inside = omega arith; few = omega arith; step = omega arith; one = omega arith }))
+      (λ s. rw (t, s) (record { head = rw (listed-next g, s); stands = new-stands; inside = a; few = omega arith; step = omega arith; one = omega arith })))
   next (suc (suc n)) w a h = absurd (omega arith)
 
 -- The line on its way: what stands in it, and what is left of the list and the new entry, is the whole.

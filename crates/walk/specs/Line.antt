@@ -1,18 +1,19 @@
 -- The line of entries that the walk meets, and its two columns: all that a view asks of an entry is its tick and the bit of its topic.
 use mathlib.Core.List.{List, [], _∷_}
-use mathlib.Core.Bool.{cond, _&&_}
+use mathlib.Core.Bool.{cond, not, _&&_, _||_}
 use Prim.Native.Nat.{ℕ, _+_, _^_}
 use lib.Dec.{eqb, ltb, leb}
 use lib.ListN.{getD}
 use Rattle.rules.specs.Desk.{noEntry}
+use Rattle.rules.specs.SharedList.{ahead}
 use Rattle.rules.specs.declared.Board.{Board}
 use Rattle.rules.specs.declared.Entry.{Entry}
 use Rattle.walk.specs.declared.Met.{Met}
 
--- What the line takes next at a place of the list: the new entry, if it waits and no higher score stands there.
-unfoldable pub metAt : Entry → ℕ → Entry → ℕ → Met
-metAt new waiting old at =
-    cond (ltb 0 waiting && leb (old .score) (new .score))
+-- What the line takes next at a place of the list: the new entry, if it waits and nothing stands there that is ahead of it.
+unfoldable pub metAt : Entry → ℕ → Entry → ℕ → ℕ → Met
+metAt new waiting old at len =
+    cond (ltb 0 waiting && (not (ahead old new) || leb len at))
     (record { entry = new; place = 1024; at = at; waiting = 0 })
     (record { entry = old; place = at; at = at + 1; waiting = waiting })
 

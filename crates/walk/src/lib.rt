@@ -222,15 +222,15 @@ fn mark_all(
     }
 }
 
-// A new entry stands before the first whose score is not above its own.
-fn meet(new: Entry, waiting: usize, old: Entry, at: usize) -> Met
+// A new entry stands before the first whose score is below its own, or at the list's end.
+fn meet(new: Entry, waiting: usize, old: Entry, at: usize, len: usize) -> Met
     requires { ⌜ at ≤ 1024 ⌝ }
-    ensures { λ r. ⌜ r ≡ metAt new waiting old at ⌝ }
+    ensures { λ r. ⌜ r ≡ metAt new waiting old at len ⌝ }
 {
     let place = at as u16;
     let next = at + 1;
     if 0 < waiting {
-        if old.score <= new.score {
+        if old.score < new.score || len <= at {
             return Met {
                 entry: new,
                 place: 1024,
@@ -282,13 +282,13 @@ fn walk(desk: Desk, clock: u32, new: Entry, waiting: usize) -> Desk
     let mut waits = waiting;
     let mut total: usize = 0;
     while at < len + waits {
-        // Past the last entry of the list the new one is next: it is met with itself. A place that was read is cleared.
+        // Past the last entry of the list the new one is next. A place that was read is cleared.
         let mut old = new;
         if at < len {
             old = desk.entries[at];
             entries[at] = none;
         }
-        let met = meet(new, waits, old, at);
+        let met = meet(new, waits, old, at, len);
         at = met.at;
         waits = met.waiting;
         places[total] = met.place;

@@ -1,4 +1,4 @@
-//! A second desk, written from document 01 alone and by the plainest means, and a
+//! A second desk, written from the documents alone and by the plainest means, and a
 //! second reader of messages as text, with a generator of files for both and a
 //! comparison with other programs.
 

@@ -1,5 +1,5 @@
 //! The rules that a planted fault can alter, each beside its fault, and no
-//! fault anywhere else. Without a fault they are those of the documents.
+//! fault anywhere else. Without a fault they are the documents' own.
 
 use std::cmp::Ordering;
 
@@ -35,7 +35,7 @@ pub const DESK_FAULTS: &Faults = &[
     (
         Fault::Tie,
         "tie",
-        "the earlier accepted is better on equal scores",
+        "the later accepted is better on equal scores",
     ),
     (
         Fault::Window,
@@ -133,9 +133,9 @@ impl Rules {
     /// Less means better: the order of a list that has the best first.
     pub fn rank(&self, one: &Request, other: &Request) -> Ordering {
         let by_arrival = if self.has(Fault::Tie) {
-            one.arrival.cmp(&other.arrival)
-        } else {
             other.arrival.cmp(&one.arrival)
+        } else {
+            one.arrival.cmp(&other.arrival)
         };
         other.score.cmp(&one.score).then(by_arrival)
     }

@@ -1,7 +1,12 @@
 -- Each answer is by the tests that led to it.
+use mathlib.Core.Path.{_≡_}
+use mathlib.Core.Bool.{true, not, _||_}
+use mathlib.Core.Logic.{⊎-elim}
 use native.Mathlib.Omega.{arith}
 use borrow.Author.Needs.{needs}
 use borrow.Author.Tests.{lt-ltb, le-ltb, le-leb, lt-leb}
+use lib.Dec.{leb}
+use Rattle.rules.specs.SharedList.{ahead}
 use Rattle.walk.specs.Line.{metAt}
 use Rattle.walk.proofs.meet.Statement.{statement}
 use Rattle.walk.proofs.meet.Tie as tie
@@ -16,13 +21,19 @@ returns : tie.Need-returns
 unfolding metAt
 returns c =
     let a = c .before .before .before .before .args in
-    simp (lt-ltb _ _ (c .before .before .before .if1 .taken), le-leb (a .old .score) (a .new .score) (omega arith))
+    let first : (not (ahead (a .old) (a .new)) || leb (a .len) (a .at)) ≡ true =
+    ⊎-elim
+    (λ h. rw (lt-leb (a .new .score) (a .old .score) (omega (arith, h .taken))))
+    (λ h. rw (le-leb (a .new .score) (a .old .score) (omega (arith, h .0 .left)), h .1 .taken))
+    (c .if2 .came) in
+    simp (lt-ltb _ _ (c .before .before .before .if1 .taken), first)
 
 returns-2 : tie.Need-returns-2
 unfolding metAt
 returns-2 c =
-    let a = c .before .before .before .before .args in
-    simp (lt-ltb _ _ (c .before .before .before .if1 .taken), lt-leb (a .old .score) (a .new .score) (omega arith))
+    let e = c .before in
+    let a = e .before .before .before .before .args in
+    simp (lt-ltb _ _ (e .before .before .before .if1 .taken), le-leb (a .new .score) (a .old .score) (omega (arith, e .if2 .left)), c .if3 .left)
 
 returns-3 : tie.Need-returns-3
 unfolding metAt

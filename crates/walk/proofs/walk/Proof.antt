@@ -72,7 +72,6 @@ met m =
     rw (m .meet .ensures) (
     next (a .t1 .entries) (a .t1 .len) (s .loop .at) (a .new) (j .old) (fits (passed s) .short) (full (passed s))
     (λ h. ⊎-elim (λ w. w .3) (λ w. absurd (omega (arith, w .0 .left))) (j .came))
-    (λ h. ⊎-elim (λ w. absurd (omega (arith, w .0 .taken))) (λ w. w .2) (j .came))
     (s .loop .waits) (s .loop .inv .0 .few) (s .loop .inv .0 .inside) (m .before .before .loop-test .taken)
     )
 

@@ -96,7 +96,7 @@ fn definitions(tally: &mut Tally) {
 fn lists(tally: &mut Tally) {
     let mut desk = open_desk(&[board(4, 4, 1)]);
     let taken = desk.request(0, 7, 5).is_ok() && desk.request(0, 8, 5).is_ok();
-    tally.check("E5", taken && ids(&desk.answer(0, 4)) == [8]);
+    tally.check("E5", taken && ids(&desk.answer(0, 4)) == [7]);
 
     let mut desk = open_desk(&[board(4, 8, 1)]);
     let taken = go(&mut desk, 3) && desk.request(0, 1, 1).is_ok();
