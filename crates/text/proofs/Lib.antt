@@ -1,2 +1,6 @@
+pub mod Capping
 pub mod Numbers
 pub mod Pieces
+pub mod Reading
+pub mod Splitting
+pub mod Whole

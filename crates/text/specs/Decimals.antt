@@ -1,10 +1,8 @@
 -- Document 01: "Decimal text anywhere is one digit or more, leading zeros allowed."
 use mathlib.Core.Path.{_≡_}
 use mathlib.Core.List.{List, [], _∷_}
-use mathlib.Core.Bool.{Bool, true, _&&_}
-use Prim.Native.Nat.{ℕ, _+_, _-_, _*_, _≤_}
-use lib.Dec.{ltb}
-use lib.ListN.{length}
+use mathlib.Core.Bool.{Bool, true, false, _&&_}
+use Prim.Native.Nat.{ℕ, _+_, _-_, _*_}
 use Rattle.lists.specs.Views.{all}
 use Rattle.rules.specs.Desk.{within}
 
@@ -23,11 +21,16 @@ behind n (byte ∷ bytes) = behind (tenfold n byte) bytes
 abbrev pub value : List ℕ → ℕ
 value text = behind 0 text
 
+-- one digit or more
+abbrev pub some : List ℕ → Bool
+some [] = false
+some (byte ∷ bytes) = true
+
 -- The text is decimal, for the number n.
 pub record Decimal (text : List ℕ) (n : ℕ) : Type 0 where
-  pub some : 1 ≤ length text
+  pub one : some text ≡ true
   pub digits : all isDigit text ≡ true
   pub same : value text ≡ n
 
-unfoldable pub isDecimal : List ℕ → Bool
-isDecimal text = ltb 0 (length text) && all isDigit text
+abbrev pub isDecimal : List ℕ → Bool
+isDecimal text = some text && all isDigit text

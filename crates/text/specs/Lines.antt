@@ -13,7 +13,7 @@ use Rattle.rules.specs.Refusals.{_when_, judged}
 use Rattle.rules.specs.Calls.{Reply, WriterOutcome, writerCall}
 use Rattle.rules.specs.Calls.Reply.{refused, accepted}
 use Rattle.rules.specs.declared.Message.{Message}
-use Rattle.text.specs.Decimals.{Decimal, isDecimal, value}
+use Rattle.text.specs.Decimals.{Decimal, isDecimal, some, value}
 
 abbrev pub space : ℕ
 space = 32
@@ -114,7 +114,7 @@ soFar messages at slice reply = record { messages = messages; place = at; reply 
 -- It stops at the first line that is refused. What is behind the last line feed must be empty: a last line without its line feed is not of the form.
 unfoldable pub linesCall : List (List ℕ) → ℕ → List ℕ → ℕ → TextOutcome
 linesCall [] messages slice at = soFar messages at slice (accepted tt)
-linesCall (rest ∷ []) messages slice at = soFar messages at slice (judged (15 when ltb 0 (length rest) ∷ []) refused (accepted tt))
+linesCall (rest ∷ []) messages slice at = soFar messages at slice (judged (15 when some rest ∷ []) refused (accepted tt))
 linesCall (line ∷ next ∷ rest) messages slice at =
     onReply (lineCall line slice at .reply)
     (λ n. soFar messages at (lineCall line slice at .slice) (refused n))
