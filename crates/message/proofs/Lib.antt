@@ -1,4 +1,7 @@
 pub mod Answers
+pub mod Encoding
+pub mod Front
+pub mod Holding
 pub mod Loops
 pub mod Numbers
 pub mod Parts

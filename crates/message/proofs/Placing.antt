@@ -8,7 +8,8 @@ use lib.ListN.{length, take, drop, set, length-append, length-drop, take-append-
 use lib.Seq.{paste, length-take-le, length-paste, take-length, take-at, drop-at, take-set-le, set-split, drop-drop}
 use Rattle.lists.proofs.Fronts.{drop-past}
 use Rattle.rules.specs.Calls.{placedAt}
-use Rattle.rules.specs.Messages.{digits}
+use Rattle.rules.specs.Messages.{mark, digits}
+use Rattle.message.specs.Encoding.{frontBytes}
 
 pub digits-length : (size n : ℕ) → length (digits size n) ≡ size
 unfolding digits
@@ -48,3 +49,9 @@ module _ (at : ℕ) (xs : List ℕ) where
 pub joined : (at next size : ℕ) (xs ys stood : List ℕ) {between after : List ℕ} → length xs ≡ size → next ≡ at + size → next ≤ length stood
     → after ≡ placedAt next ys between → between ≡ placedAt at xs stood → after ≡ placedAt at (xs ++ ys) stood
 joined at next size xs ys stood n k h e f = e ∙ ap (placedAt next ys) f ∙ behind at xs ys stood (rw n k) h
+
+pub front-length : (version kind : ℕ) → length (frontBytes version kind) ≡ 6
+front-length version kind =
+    let two = digits 2 version in
+    let one = digits 1 kind in
+    omega (arith, length-append mark (two ++ one), length-append two one, digits-length 2 version, digits-length 1 kind)

@@ -4,13 +4,11 @@ use mathlib.Core.List.{List, _++_}
 use Prim.Native.Nat.{ℕ, _+_}
 use native.Mathlib.Omega.{arith}
 use borrow.Author.Needs.{needs}
-use lib.ListN.{length, length-append}
 use Rattle.rules.specs.Calls.{placedAt}
-use Rattle.rules.specs.Messages.{mark, digits}
 use Rattle.rules.specs.declared.Message.{Message}
 use Rattle.message.specs.Encoding.{frontBytes, fieldBytes}
 use Rattle.message.proofs.Parts.{encoded-own}
-use Rattle.message.proofs.Placing.{digits-length, joined}
+use Rattle.message.proofs.Placing.{front-length, joined}
 use Rattle.message.proofs.encode.Statement.{statement}
 use Rattle.message.proofs.encode.Tie as tie
 
@@ -25,12 +23,6 @@ put-fields-requires c κs = search needs
 
 same-length : tie.Need-same-length
 same-length c = search needs
-
-front-length : (version kind : ℕ) → length (frontBytes version kind) ≡ 6
-front-length version kind =
-    let two = digits 2 version in
-    let one = digits 1 kind in
-    omega (arith, length-append mark (two ++ one), length-append two one, digits-length 2 version, digits-length 1 kind)
 
 -- what is put of a message's own fields
 abbrev pieces : ℕ → Message → List ℕ
