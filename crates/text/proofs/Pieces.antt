@@ -1,55 +1,39 @@
 -- A piece, byte by byte: what is left of it makes of the line what the whole makes of the line before it.
 use mathlib.Core.Path.{_≡_, refl, sym, ap, _∙_}
 use mathlib.Core.List.{List, [], _∷_}
-use mathlib.Core.Bool.{true, false}
 use mathlib.Core.Logic.{⊎-elim}
 use Prim.Native.Nat.{ℕ, _+_, _≤_, _<_}
 use native.Mathlib.Omega.{arith}
 use native.Mathlib.Numerals.{add-one}
-use borrow.Author.Tests.{ltb-false, eq-eqb, ne-eqb}
-use lib.Dec.{eqb, ltb}
+use borrow.Author.Tests.{eq-eqb, ne-eqb}
 use lib.ListN.{length, getD, drop, drop-of-length-le}
 use lib.Seq.{drop-cons}
-use Rattle.lists.proofs.Bools.{by}
 use Rattle.message.specs.Outcomes.{wrote}
-use Rattle.rules.specs.Messages.{encoded}
-use Rattle.rules.specs.Refusals.{writerRules}
-use Rattle.rules.specs.Calls.{Reply, WriterOutcome, writerCall, placedAt}
+use Rattle.rules.specs.Calls.{Reply, WriterOutcome}
 use Rattle.rules.specs.Calls.Reply.{refused, accepted}
 use Rattle.rules.specs.Replies.{read, asked, number}
-use Rattle.rules.specs.declared.Message.{Message}
 use Rattle.rules.specs.declared.Asked.{Asked}
 use Rattle.rules.specs.declared.Read.{Read}
 use Rattle.rules.specs.declared.Refusal.{Refusal}
-use Rattle.rules.proofs.Refusing.{judged-cases}
 use Rattle.text.specs.Lines.{writeRead, soFar}
 use Rattle.text.specs.Machine.{fresh, next, ends, says, lineEnd, pieceCall, leaving}
 use Rattle.text.specs.declared.Begun.{Begun}
+use Rattle.text.proofs.Room.{line-or-not}
 
 pub ended : (s t : Begun) (r : Read) (slice : List ℕ) (at : ℕ) → t ≡ ends s → read r ≡ says t → writeRead (read r) slice at ≡ lineEnd s slice at
 unfolding lineEnd
 ended s t r slice at e f = ap (λ x. writeRead x slice at) (f ∙ ap says e)
 
 -- What is written has room.
-abbrev writes : Message → List ℕ → ℕ → WriterOutcome
-writes m slice at = record { reply = accepted tt; slice = placedAt at (encoded 1 m) slice }
-
-room-for : (r : Reply Message) (slice : List ℕ) (at : ℕ) → writeRead r slice at .reply ≡ accepted tt → at + 20 ≤ length slice
-unfolding writerCall
-room-for (refused n) slice at e = let z : _≡_ {A = ℕ} 0 1 = cc in absurd (omega arith)
-room-for (accepted m) slice at e =
+pub room : (s : Begun) (slice after : List ℕ) (at : ℕ) → wrote Asked.Accepted after ≡ lineEnd s slice at → at + 20 ≤ length slice
+room s slice after at w =
     ⊎-elim
     (λ k.
-    let d : _≡_ {A = Reply Unit} (refused (k .no)) (accepted tt) =
-    sym (ap (λ (o : WriterOutcome). o .reply) (k .same WriterOutcome (λ n. record { reply = refused n; slice = slice }) (writes m slice at))) ∙ e in
+    let e : _≡_ {A = Reply Unit} (accepted tt) (refused (k .no)) = ap (λ (o : WriterOutcome). o .reply) (w ∙ k .stands) in
     let z : _≡_ {A = ℕ} 0 1 = cc in
     absurd (omega arith))
-    (λ k. ltb-false (length slice) (at + 20) (k .none .1 .1 .1 .0))
-    (judged-cases (writerRules 1 m (length slice) at))
-
-pub room : (s : Begun) (slice after : List ℕ) (at : ℕ) → wrote Asked.Accepted after ≡ lineEnd s slice at → at + 20 ≤ length slice
-unfolding lineEnd
-room s slice after at w = room-for (says (ends s)) slice at (sym (ap (λ (o : WriterOutcome). o .reply) w))
+    (λ k. k .room)
+    (line-or-not s slice at)
 
 module _ (s : Begun) (piece : List ℕ) (i messages : ℕ) (slice : List ℕ) (at : ℕ) (inside : i < length piece) where
   here : drop i piece ≡ getD piece i 0 ∷ drop (i + 1) piece
