@@ -64,13 +64,14 @@ fn take(line: Begun, place: u64, piece: &[u8], output: &mut [u8]) -> Progress
     let taken = text::take(line, piece, output, 0);
     let end = taken.place;
     let rest = taken.line;
+    let answer = taken.answer;
     // No input has 2 to the 64 lines.
     let place = std::num::wrapping_add_u64(place, taken.messages as u64);
     if io::write_all(1, &output[..end]) {
         return Progress {
             line: rest,
             place,
-            more: goes_on(taken.answer, place),
+            more: goes_on(answer, place),
         };
     }
     io::write_all(2, b"from_text: standard output cannot be written\n");

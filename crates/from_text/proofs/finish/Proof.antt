@@ -1,20 +1,25 @@
+use mathlib.Core.Path.{_≡_, sym, _∙_}
+use Prim.Native.Nat.{ℕ}
+use native.Mathlib.Omega.{arith}
+use Rattle.lists.proofs.Bools.{by}
+use Rattle.rules.specs.Calls.Reply.{refused}
+use Rattle.text.specs.Machine.{begun, endCall}
+use Rattle.text.specs.declared.Begun.{Begun}
 use borrow.Author.Needs.{needs}
 use Rattle.from_text.proofs.finish.Statement.{statement}
 use Rattle.from_text.proofs.finish.Tie as tie
-use Rattle.from_text.proofs.finish.Reads as reads
-use Rattle.from_text.proofs.finish.Lts as lts
-use Rattle.from_text.proofs.goes_on.Reads as goes-on-reads
-use Rattle.text.proofs.end.Reads as end-reads
 
--- src/main.rt:99:13
+-- the end of the input is refused with 15 alone
+not-short : (s : Begun) → endCall s ≡ refused 14 → ⊥
+unfolding endCall
+not-short s e = by (begun s) (λ f. let z : _≡_ {A = ℕ} 15 14 = cc in omega arith) (λ f. let z : _≡_ {A = ℕ} 0 1 = cc in omega arith)
+
 end-requires : tie.Need-end-requires
 end-requires c κs = search needs
 
--- src/main.rt:99:5
 goes-on-requires : tie.Need-goes-on-requires
-goes-on-requires c κs = ?
+goes-on-requires c κs = λ e. not-short (c .before .args .line) (sym (c .end .ensures) ∙ e)
 
--- src/main.rt:98:1
 returns : tie.Need-returns
 returns c = search needs
 
