@@ -1,6 +1,9 @@
 pub mod Answers
 pub mod Encoding
 pub mod Front
+pub mod Holding
 pub mod Loops
 pub mod Numbers
+pub mod Parts
+pub mod Placing
 pub mod Tight

@@ -11,7 +11,7 @@ use lib.ListN.{length, take, drop, getD, length-append, length-drop}
 use lib.Seq.{take-suc, getD-drop}
 use Rattle.rules.specs.Messages.{bigEndian, numberAt}
 
-at-the-end : (xs : List ℕ) (byte : ℕ) → bigEndian (xs ++ (byte ∷ [])) ≡ bigEndian xs * 256 + byte
+pub at-the-end : (xs : List ℕ) (byte : ℕ) → bigEndian (xs ++ (byte ∷ [])) ≡ bigEndian xs * 256 + byte
 unfolding bigEndian
 at-the-end [] byte = omega arith
 at-the-end (x ∷ xs) byte =

@@ -1,4 +1,6 @@
-// Document 01, "Messages": the reader. A message is the first 20 bytes of what it is given; the rest is handed on.
+// Document 01, "Messages": the reader, and document 02's writer. A message is the first 20 bytes of what the reader is given, and the rest is handed on; the
+// writer puts 20 bytes into a lent slice from a place on.
+use rules::Asked;
 use rules::Board;
 use rules::Message;
 use rules::Read;
@@ -7,15 +9,17 @@ ghost use mathlib.Core.Path.{_≡_};
 ghost use Prim.Native.Nat.{_+_, _-_, _≤_};
 ghost use lib.ListN.{length};
 ghost use Rattle.lists.specs.Views.{all};
-ghost use Rattle.rules.specs.Calls.{readerCall};
-ghost use Rattle.rules.specs.Messages.{mark, sameBytes, numberAt, places, isZero, zerosStand, message, fieldsFit, rest};
+ghost use Rattle.rules.specs.Calls.{readerCall, writerCall, placedAt};
+ghost use Rattle.rules.specs.Messages.{mark, sameBytes, numberAt, places, isZero, zerosStand, message, own, digits, encoded, fieldsFit, rest};
 ghost use Rattle.rules.specs.Replies.{read as readOf};
+ghost use Rattle.message.specs.Encoding.{frontBytes, fieldBytes};
+ghost use Rattle.message.specs.Outcomes.{wrote};
 
 pub const SIZE: usize = 20;
 
 pub const VERSION: u32 = 1;
 
-// The mark, for the reader to compare and a writer to store.
+// The mark, for the reader to compare and the writer to store.
 pub fn mark() -> [u8; 3]
     ensures { λ r. ⌜ r ≡ mark ⌝ }
 {
@@ -89,12 +93,43 @@ fn fields(bytes: &[u8]) -> Message
     requires { ⌜ 20 ≤ length (now bytes) ⌝ }
     ensures { λ r. ⌜ r ≡ message (now (bytes .entry)) ⌝ }
 {
-    Message {
+    own(Message {
         kind: number(bytes, 5, 1),
         byte: number(bytes, 6, 1),
         first: number(bytes, 8, 4),
         second: number(bytes, 12, 4),
         third: number(bytes, 16, 4),
+    })
+}
+
+// The fields that the kind has, and 0 for the others. Only kinds 1 to 4 are asked about, so the last arm is the clock's.
+fn own(fields: Message) -> Message
+    ensures { λ r. ⌜ r ≡ own fields ⌝ }
+{
+    let kind = fields.kind;
+    match kind {
+        1 => fields,
+        2 => Message {
+            kind,
+            byte: fields.byte,
+            first: fields.first,
+            second: fields.second,
+            third: 0,
+        },
+        3 => Message {
+            kind,
+            byte: 0,
+            first: 0,
+            second: 0,
+            third: 0,
+        },
+        _ => Message {
+            kind,
+            byte: 0,
+            first: fields.first,
+            second: 0,
+            third: 0,
+        },
     }
 }
 
@@ -111,28 +146,25 @@ fn zero(bytes: &[u8], from: usize, end: usize) -> bool
     true
 }
 
-// The bytes that must be zero are. Only kinds 1 to 4 are asked about, so the last arm is the clock's.
+// The bytes that must be zero are. The last arm is the clock's, as above.
 fn zeros_stand(bytes: &[u8], kind: u8) -> bool
     requires { ⌜ 20 ≤ length (now bytes) ⌝ }
     ensures { λ r. ⌜ r ≡ zerosStand (now (bytes .entry)) kind ⌝ }
 {
-    if bytes[7] != 0 {
-        return false;
-    }
     match kind {
-        1 => true,
-        2 => zero(bytes, 16, SIZE),
-        3 => {
-            if bytes[6] != 0 {
-                return false;
+        1 => zero(bytes, 7, 8),
+        2 => {
+            if zero(bytes, 7, 8) {
+                return zero(bytes, 16, SIZE);
             }
-            zero(bytes, 8, SIZE)
+            false
         }
+        3 => zero(bytes, 6, SIZE),
         _ => {
-            if bytes[6] != 0 {
-                return false;
+            if zero(bytes, 6, 8) {
+                return zero(bytes, 12, SIZE);
             }
-            zero(bytes, 12, SIZE)
+            false
         }
     }
 }
@@ -152,5 +184,89 @@ fn fields_fit(fields: Message) -> bool
         2 => rules::request_fits(fields.byte, fields.second),
         3 => true,
         _ => rules::clock_fits(fields.first),
+    }
+}
+
+// A message's 20 bytes into the slice from a place on, or the first refusal of 3, 4, 6 and 14 that is given: then no byte is touched.
+pub fn write(version: u32, message: Message, bytes: &mut [u8], at: usize) -> Asked
+    ensures { λ r. ⌜ wrote r (now (bytes .exit)) ≡ writerCall version message (now (bytes .entry)) at ⌝ }
+{
+    if version != VERSION {
+        return Asked::Refused(Refusal::Version);
+    }
+    let kind = message.kind;
+    match kind {
+        1..=4 => {}
+        0 | 5..=4294967295 => return Asked::Refused(Refusal::Kind),
+    }
+    if !fields_fit(message) {
+        return Asked::Refused(Refusal::Range);
+    }
+    if rules::less(bytes.len(), at) < SIZE {
+        return Asked::Refused(Refusal::Room);
+    }
+    encode(version, message, bytes, at);
+    Asked::Accepted
+}
+
+// The message's bytes, from a place on.
+fn encode(version: u32, message: Message, bytes: &mut [u8], at: usize)
+    requires { ⌜ at + 20 ≤ length (now bytes) ⌝ }
+    ensures { λ _. ⌜ now (bytes .exit) ≡ placedAt at (encoded version message) (now (bytes .entry)) ⌝ }
+{
+    let fields = own(message);
+    put_front(bytes, at, version, fields.kind);
+    put_fields(
+        bytes,
+        at,
+        fields.byte,
+        fields.first,
+        fields.second,
+        fields.third,
+    );
+}
+
+fn put_front(bytes: &mut [u8], at: usize, version: u32, kind: u32)
+    requires { ⌜ at + 20 ≤ length (now bytes) ⌝ }
+    ensures { λ _. ⌜ now (bytes .exit) ≡ placedAt at (frontBytes version kind) (now (bytes .entry)) ⌝ }
+{
+    let mark = mark();
+    put_bytes(bytes, at, &mark);
+    put_number(bytes, at + 3, 2, version);
+    put_number(bytes, at + 5, 1, kind);
+}
+
+// The parts of a board; what another kind does not have is 0 here.
+fn put_fields(bytes: &mut [u8], at: usize, byte: u32, first: u32, second: u32, third: u32)
+    requires { ⌜ at + 20 ≤ length (now bytes) ⌝ }
+    ensures { λ _. ⌜ now (bytes .exit) ≡ placedAt (at + 6) (fieldBytes byte first second third) (now (bytes .entry)) ⌝ }
+{
+    put_number(bytes, at + 6, 1, byte);
+    put_number(bytes, at + 7, 1, 0);
+    put_number(bytes, at + 8, 4, first);
+    put_number(bytes, at + 12, 4, second);
+    put_number(bytes, at + 16, 4, third);
+}
+
+// A number in `size` bytes from a place on, big-endian; the last byte is put first.
+fn put_number(bytes: &mut [u8], from: usize, size: usize, number: u32)
+    requires { ⌜ from + size ≤ length (now bytes) ⌝ }
+    ensures { λ _. ⌜ now (bytes .exit) ≡ placedAt from (digits size number) (now (bytes .entry)) ⌝ }
+{
+    let mut left = number;
+    let mut i = size;
+    while 0 < i {
+        i -= 1;
+        bytes[from + i] = (left % 256) as u8;
+        left = left / 256;
+    }
+}
+
+fn put_bytes(bytes: &mut [u8], from: usize, part: &[u8])
+    requires { ⌜ from + length (now part) ≤ length (now bytes) ⌝ }
+    ensures { λ _. ⌜ now (bytes .exit) ≡ placedAt from (now (part .entry)) (now (bytes .entry)) ⌝ }
+{
+    for i in 0..part.len() {
+        bytes[from + i] = part[i];
     }
 }

@@ -1,6 +1,8 @@
--- `message::fields` meets its contract: each field is the number that the call returns.
+-- `message::fields` meets its contract: each number is what the call returns, and the message is made of the kind's own.
+use mathlib.Core.Path.{_≡_, _∙_, ap}
 use borrow.Author.Needs.{needs}
-use Rattle.rules.specs.Messages.{message}
+use Rattle.rules.specs.Messages.{own}
+use Rattle.message.proofs.Parts.{numbers, message-own}
 use Rattle.message.proofs.fields.Statement.{statement}
 use Rattle.message.proofs.fields.Tie as tie
 
@@ -19,9 +21,23 @@ number-requires-4 c κs = search needs
 number-requires-5 : tie.Need-number-requires-5
 number-requires-5 c κs = search needs
 
+own-requires : tie.Need-own-requires
+own-requires c κs = search needs
+
+-- the numbers that the calls returned
+numbered : (c : tie.After-own)
+    → record {
+      kind = c .before .before .before .before .before .number .result;
+      byte = c .before .before .before .before .number2 .result;
+      first = c .before .before .before .number3 .result;
+      second = c .before .before .number4 .result;
+      third = c .before .number5 .result;
+    }
+    ≡ numbers (c .before .before .before .before .before .before .before .args .bytes .now)
+numbered c = cc
+
 returns : tie.Need-returns
-unfolding message
-returns c = cc
+returns c = c .own .ensures ∙ ap own (numbered c) ∙ message-own (c .before .before .before .before .before .before .before .args .bytes .now)
 
 pub fields-spec : {M : Type 1} → statement M
 fields-spec =
@@ -32,4 +48,5 @@ fields-spec =
     number-requires-3
     number-requires-4
     number-requires-5
+    own-requires
     returns)

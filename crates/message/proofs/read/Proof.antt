@@ -9,7 +9,7 @@ use lib.ListN.{length, take, drop, getD}
 use lib.Seq.{length-take-le}
 use Rattle.rules.specs.Calls.{Reply, readerCall}
 use Rattle.rules.specs.Calls.Reply.{refused, accepted}
-use Rattle.rules.specs.Messages.{mark, sameBytes, message}
+use Rattle.rules.specs.Messages.{mark, sameBytes, kindAt, message}
 use Rattle.rules.specs.Refusals.{judged, readerRules}
 use Rattle.rules.specs.declared.Message.{Message}
 use Rattle.message.proofs.Answers.{denied, granted}
@@ -21,8 +21,7 @@ use Rattle.message.proofs.read.Tie as tie
 abbrev after : ℕ → List ℕ → Reply Message
 after n xs = judged (drop n (readerRules xs)) refused (accepted (message xs))
 
-kind-byte : (xs : List ℕ) → 20 ≤ length xs → message xs .kind ≡ getD xs 5 0
-unfolding message
+kind-byte : (xs : List ℕ) → 20 ≤ length xs → kindAt xs ≡ getD xs 5 0
 kind-byte xs h = one-byte xs 5 (omega arith)
 
 -- the bytes, where the first, the second, .. line has let them pass
