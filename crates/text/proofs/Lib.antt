@@ -1,7 +1,9 @@
 pub mod Capping
+pub mod Grammar
 pub mod Numbers
 pub mod Pieces
 pub mod Reading
 pub mod Room
 pub mod Splitting
+pub mod Tight
 pub mod Whole

@@ -1,6 +1,6 @@
 -- A whole text taken as one piece, with its end, is its lines one after the other: by induction on the bytes, over the line that was begun before them.
 use mathlib.Core.Path.{_≡_, refl, sym, ap, ap₂, subst, _∙_}
-use mathlib.Core.List.{List, [], _∷_}
+use mathlib.Core.List.{List, [], _∷_, _++_}
 use mathlib.Core.Bool.{Bool, true, false, _&&_, _||_}
 use Prim.Native.Nat.{ℕ, _+_}
 use native.Mathlib.Omega.{arith}
@@ -109,3 +109,24 @@ module _ (r : Taken) (s : Begun) (after text slice : List ℕ) (at : ℕ) (promi
 
   pub to-a-refusal : (n : Refusal) → r .answer ≡ Asked.Refused n → soFar (r .messages) (r .place) after (refused (number n)) ≡ textCall text slice at
   to-a-refusal n e = rw e at closes
+
+-- Pieces of any size: one piece behind another is the two joined.
+pub further : PieceOutcome → List ℕ → PieceOutcome
+further o piece = onReply (o .text .reply) (λ n. o) (λ _. pieceCall (o .line) piece (o .text .messages) (o .text .slice) (o .text .place))
+
+further-on : (r : Reply Unit) (a : ℕ → PieceOutcome) (b : PieceOutcome) (piece : List ℕ) → further (onReply r a (λ _. b)) piece ≡ onReply r (λ n. further (a n) piece) (λ _. further b piece)
+further-on (refused n) a b piece = refl
+further-on (accepted _) a b piece = refl
+
+pub piece-by-piece : (one two : List ℕ) (s : Begun) (messages : ℕ) (slice : List ℕ) (at : ℕ)
+    → further (pieceCall s one messages slice at) two ≡ pieceCall s (one ++ two) messages slice at
+unfolding pieceCall further
+piece-by-piece [] two s messages slice at = refl
+piece-by-piece (byte ∷ bytes) two s messages slice at =
+    by (eqb byte 10)
+    (λ e.
+    rw e
+    (further-on (lineEnd s slice at .reply) (λ n. leaving s (soFar messages at (lineEnd s slice at .slice) (refused n))) (pieceCall fresh bytes (messages + 1) (lineEnd s slice at .slice) (at + 20)) two
+    ∙ ap (λ (o : PieceOutcome). onReply (lineEnd s slice at .reply) (λ n. leaving s (soFar messages at (lineEnd s slice at .slice) (refused n))) (λ _. o))
+    (piece-by-piece bytes two fresh (messages + 1) (lineEnd s slice at .slice) (at + 20))))
+    (λ e. rw e (piece-by-piece bytes two (next s byte) messages slice at))

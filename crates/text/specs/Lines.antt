@@ -76,6 +76,9 @@ ofNumbers [] = blank 0
 ofNumbers (version ∷ []) = blank 0
 ofNumbers (version ∷ kind ∷ ns) = given (fieldParts kind) ns (blank kind)
 
+abbrev pub messageIn : List ℕ → Message
+messageIn line = ofNumbers (numbers line)
+
 -- 15 for what is not of the form; then 6 for a number that no field of 32 bits holds.
 abbrev pub has32Bits : ℕ → Bool
 has32Bits n = ltb n (2 ^ 32)
