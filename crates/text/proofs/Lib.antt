@@ -1,5 +1,6 @@
 pub mod Capping
 pub mod Grammar
+pub mod Kinds
 pub mod Numbers
 pub mod Pieces
 pub mod Reading

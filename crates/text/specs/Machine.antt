@@ -42,7 +42,7 @@ ends s =
 unfoldable pub next : Begun → ℕ → Begun
 next s byte = cond (isDigit byte) (digit s byte) (cond (eqb byte space) (ends s) (breaks s))
 
--- Some of six numbers that a line of the form has, each within 32 bits.
+-- So many of six numbers are of the form, each within 32 bits.
 pub record Formed (count : ℕ) (ns : List ℕ) : Type 0 where
   pub six : length ns ≡ 6
   pub few : count ≤ 6
