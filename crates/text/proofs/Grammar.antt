@@ -1,10 +1,10 @@
 -- A line has one reading, and it is the one that is computed: the words between spaces are the decimals of the grammar, and a kind's numbers are its fields.
 use mathlib.Core.Path.{_≡_, refl, sym, ap, ap₂, subst, _∙_}
-use mathlib.Core.List.{List, [], _∷_, _++_, map}
-use mathlib.Core.Bool.{Bool, true, false, not, _&&_, and-eq-true-iff}
+use mathlib.Core.List.{List, [], _∷_, map}
+use mathlib.Core.Bool.{true, not, _&&_, and-eq-true-iff}
 use Prim.Native.Nat.{ℕ, suc, _+_, _<_}
 use native.Mathlib.Omega.{arith}
-use borrow.Author.Tests.{leb-true, eqb-true, eqb-false, eq-eqb, ne-eqb}
+use borrow.Author.Tests.{leb-true, eqb-true, eq-eqb, ne-eqb}
 use lib.Dec.{eqb, leb}
 use lib.ListN.{length, length-map}
 use Rattle.lists.specs.Views.{all}
@@ -19,7 +19,7 @@ use Rattle.text.specs.Decimals.{Decimal, isDigit, isDecimal, some, value
 use Rattle.text.specs.Lines.{Spaced, Line, Text, split, numbers, fieldParts, fields, formed, ofForm, given, ofNumbers, messageIn, readNumbers, TextOutcome, onReply, soFar, lineCall, linesCall, textCall}
 use Rattle.text.specs.Lines.Spaced.{last, more}
 use Rattle.text.specs.Lines.Text.{none, begins}
-use Rattle.text.proofs.Kinds.{made, known-kind}
+use Rattle.text.proofs.EachKind.{made, known-kind}
 use Rattle.text.proofs.Splitting.{pieces, free, one-piece, piece-ends, joined, joined-again}
 
 -- Decimals

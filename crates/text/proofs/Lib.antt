@@ -1,6 +1,6 @@
 pub mod Capping
+pub mod EachKind
 pub mod Grammar
-pub mod Kinds
 pub mod Numbers
 pub mod Pieces
 pub mod Reading

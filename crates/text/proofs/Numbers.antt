@@ -1,15 +1,15 @@
 -- Six numbers, of which a line has the first few: their version, their kind and how many they are say whether they are of the form; then the kind says
 -- which fields they are.
-use mathlib.Core.Path.{_≡_, refl, sym, ap, ap₂, _∙_}
+use mathlib.Core.Path.{_≡_, refl, sym, ap, _∙_}
 use mathlib.Core.List.{List, [], _∷_}
 use mathlib.Core.Bool.{Bool, true, false, _&&_, and-eq-true-iff}
-use Prim.Native.Nat.{ℕ, zero, suc, _+_, _-_, _%_, _^_, _≤_, _<_, min}
+use Prim.Native.Nat.{ℕ, zero, suc, _+_, _%_, _^_, _≤_, _<_, min}
 use native.Mathlib.Omega.{arith}
 use native.Mathlib.Nat.{mod-eq-of-lt}
 use borrow.Author.Tests.{ltb-true, ltb-false, eqb-true, eqb-false, leb-true, eq-eqb, ne-eqb}
 use lib.Dec.{eqb, ltb, leb}
 use lib.ListN.{length, getD, take}
-use lib.Seq.{length-take-le, getD-take, take-all}
+use lib.Seq.{length-take-le, getD-take}
 use Rattle.lists.specs.Views.{all}
 use Rattle.lists.proofs.Turns.{take-least}
 use Rattle.lists.proofs.Bools.{by, clash, untrue}
@@ -18,7 +18,7 @@ use Rattle.rules.specs.Messages.{layout, byKind}
 use Rattle.rules.specs.declared.Message.{Message}
 use Rattle.text.specs.Lines.{fieldParts, formed, has32Bits, ofNumbers}
 use Rattle.text.specs.Machine.{Formed}
-use Rattle.text.proofs.Kinds.{made, known-kind}
+use Rattle.text.proofs.EachKind.{made, known-kind}
 
 pub all-at : {A : Type 0} (p : A → Bool) (xs : List A) (i : ℕ) (d : A) → i < length xs → all p xs ≡ true → p (getD xs i d) ≡ true
 all-at p [] i d h e = absurd (omega arith)
