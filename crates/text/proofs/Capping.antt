@@ -1,19 +1,16 @@
 -- What is kept of a number above 32 bits says as much as the number: it is no version, no kind and no field.
-use mathlib.Core.Path.{_≡_, refl, sym, ap, ap₂, _∙_}
+use mathlib.Core.Path.{_≡_, refl, ap₂}
 use mathlib.Core.List.{List, [], _∷_, map}
-use mathlib.Core.Bool.{Bool, true, false, cond, not, _&&_, and-eq-true-iff}
-use Prim.Native.Nat.{ℕ, _+_, _*_, _-_, _^_, _≤_, _<_, min}
+use mathlib.Core.Bool.{Bool, true, and-eq-true-iff}
+use Prim.Native.Nat.{ℕ, _^_, _≤_, _<_}
 use native.Mathlib.Omega.{arith}
-use borrow.Author.Tests.{ltb-true, ltb-false, lt-ltb, le-ltb, ne-eqb, le-leb, lt-leb}
-use lib.Dec.{eqb, ltb, leb}
-use lib.ListN.{length, length-map}
+use borrow.Author.Tests.{ltb-true, ltb-false, ne-eqb, le-leb, lt-leb}
+use lib.Dec.{ltb}
+use lib.ListN.{length-map}
 use Rattle.lists.specs.Views.{all}
 use Rattle.lists.proofs.Bools.{by}
-use Rattle.rules.specs.Desk.{within}
-use Rattle.rules.specs.Calls.{Reply}
-use Rattle.rules.specs.declared.Message.{Message}
 use Rattle.text.specs.Decimals.{tenfold, behind}
-use Rattle.text.specs.Lines.{fieldParts, formed, has32Bits, ofNumbers, readNumbers}
+use Rattle.text.specs.Lines.{formed, has32Bits, readNumbers}
 use Rattle.text.specs.Machine.{capped}
 
 pub cap-small : (n : ℕ) → n < 2 ^ 32 → capped n ≡ n

@@ -1,10 +1,10 @@
 -- A line has one reading, and it is the one that is computed: the words between spaces are the decimals of the grammar, and a kind's numbers are its fields.
 use mathlib.Core.Path.{_≡_, refl, sym, ap, ap₂, subst, _∙_}
-use mathlib.Core.List.{List, [], _∷_, _++_, map}
-use mathlib.Core.Bool.{Bool, true, false, not, _&&_, and-eq-true-iff}
+use mathlib.Core.List.{List, [], _∷_, map}
+use mathlib.Core.Bool.{true, not, _&&_, and-eq-true-iff}
 use Prim.Native.Nat.{ℕ, suc, _+_, _<_}
 use native.Mathlib.Omega.{arith}
-use borrow.Author.Tests.{leb-true, eqb-true, eqb-false, eq-eqb, ne-eqb}
+use borrow.Author.Tests.{leb-true, eqb-true, eq-eqb, ne-eqb}
 use lib.Dec.{eqb, leb}
 use lib.ListN.{length, length-map}
 use Rattle.lists.specs.Views.{all}
@@ -12,11 +12,14 @@ use Rattle.lists.proofs.Bools.{by, clash}
 use Rattle.message.proofs.Parts.{all-append}
 use Rattle.rules.specs.Desk.{within}
 use Rattle.rules.specs.Messages.{layout, own, blank}
+use Rattle.rules.specs.Calls.{Reply}
+use Rattle.rules.specs.Calls.Reply.{refused, accepted}
 use Rattle.rules.specs.declared.Message.{Message}
 use Rattle.text.specs.Decimals.{Decimal, isDigit, isDecimal, some, value}
-use Rattle.text.specs.Lines.{Spaced, Line, Text, split, numbers, fieldParts, fields, formed, ofForm, given, ofNumbers, messageIn}
+use Rattle.text.specs.Lines.{Spaced, Line, Text, split, numbers, fieldParts, fields, formed, ofForm, given, ofNumbers, messageIn, readNumbers, TextOutcome, onReply, soFar, lineCall, linesCall, textCall}
 use Rattle.text.specs.Lines.Spaced.{last, more}
 use Rattle.text.specs.Lines.Text.{none, begins}
+use Rattle.text.proofs.EachKind.{made, known-kind}
 use Rattle.text.proofs.Splitting.{pieces, free, one-piece, piece-ends, joined, joined-again}
 
 -- Decimals
@@ -48,24 +51,6 @@ words-spaced w (v ∷ vs) e =
     more (is-decimal w (t .0)) (words-spaced v vs (t .1))
 
 -- Fields
-known-kind : (P : ℕ → Type 0) → P 1 → P 2 → P 3 → P 4 → (k : ℕ) → within 1 4 k ≡ true → P k
-known-kind P board request opening clock k e =
-    let t = and-eq-true-iff (leb 1 k) (leb k 4) .0 e in
-    by (eqb k 1)
-    (λ f. subst P (sym (eqb-true k 1 f)) board)
-    (λ no-board.
-    by (eqb k 2)
-    (λ f. subst P (sym (eqb-true k 2 f)) request)
-    (λ no-request.
-    by (eqb k 3)
-    (λ f. subst P (sym (eqb-true k 3 f)) opening)
-    (λ no-open.
-    let kind : k ≡ 4 = omega (arith, leb-true 1 k (t .0), leb-true k 4 (t .1), eqb-false k 1 no-board, eqb-false k 2 no-request, eqb-false k 3 no-open) in
-    subst P (sym kind) clock)))
-
-abbrev made : ℕ → ℕ → ℕ → ℕ → ℕ → Message
-made kind byte first second third = record { kind = kind; byte = byte; first = first; second = second; third = third }
-
 fields-message : (m : Message) → within 1 4 (m .kind) ≡ true → ofNumbers (1 ∷ m .kind ∷ fields m) ≡ own m
 unfolding ofNumbers fields fieldParts layout own
 fields-message m =
@@ -150,3 +135,35 @@ text-read (begins {text = t} {rest = rest} {m = m} l more-lines) =
 
 pub one-reading-of-a-text : {text : List ℕ} {ms ns : List Message} → Text text ms → Text text ns → ms ≡ ns
 one-reading-of-a-text t u = sym (text-read t) ∙ text-read u
+
+-- What is accepted is a text of the grammar.
+form-read : (line slice : List ℕ) (at : ℕ) → lineCall line slice at .reply ≡ accepted tt → ofForm line ≡ true
+unfolding ofForm readNumbers
+form-read line slice at e =
+    by (all isDecimal (split 32 line) && formed (numbers line))
+    (λ f. f)
+    (λ f.
+    let d : _≡_ {A = Reply Unit} (refused 15) (accepted tt) = rw f at e in
+    let z : _≡_ {A = ℕ} 0 1 = cc in
+    absurd (omega arith))
+
+on-accept : (r : Reply Unit) (a : ℕ → TextOutcome) (b : TextOutcome) → ((n : ℕ) → a n .reply ≡ refused n) → onReply r a (λ _. b) .reply ≡ accepted tt
+    → (r ≡ accepted tt) × (b .reply ≡ accepted tt)
+on-accept (refused n) a b h e =
+    let d : _≡_ {A = Reply Unit} (refused n) (accepted tt) = sym (h n) ∙ e in
+    let z : _≡_ {A = ℕ} 0 1 = cc in
+    absurd (omega arith)
+on-accept (accepted u) a b h e = (refl, e)
+
+accepted-lines : (lines : List (List ℕ)) (messages : ℕ) (slice : List ℕ) (at : ℕ) → linesCall lines messages slice at .reply ≡ accepted tt → Text (joined 10 lines) (messagesIn lines)
+unfolding linesCall
+accepted-lines [] messages slice at e = none
+accepted-lines ([] ∷ []) messages slice at e = none
+accepted-lines ((byte ∷ bytes) ∷ []) messages slice at e = let z : _≡_ {A = ℕ} 0 1 = cc in absurd (omega arith)
+accepted-lines (line ∷ next ∷ rest) messages slice at e =
+    let o = lineCall line slice at in
+    let k = on-accept (o .reply) (λ n. soFar messages at (o .slice) (refused n)) (linesCall (next ∷ rest) (messages + 1) (o .slice) (at + 20)) (λ n. refl) e in
+    begins (read-line line (form-read line slice at (k .0))) (accepted-lines (next ∷ rest) (messages + 1) (o .slice) (at + 20) (k .1))
+
+pub accepted-text : (text slice : List ℕ) (at : ℕ) → textCall text slice at .reply ≡ accepted tt → (ms : List Message) × Text text ms
+accepted-text text slice at e = (messagesIn (split 10 text), rw (joined-again 10 text) at (accepted-lines (split 10 text) 0 slice at e))

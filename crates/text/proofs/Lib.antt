@@ -1,4 +1,5 @@
 pub mod Capping
+pub mod EachKind
 pub mod Grammar
 pub mod Numbers
 pub mod Pieces

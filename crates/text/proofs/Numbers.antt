@@ -1,15 +1,15 @@
 -- Six numbers, of which a line has the first few: their version, their kind and how many they are say whether they are of the form; then the kind says
 -- which fields they are.
-use mathlib.Core.Path.{_≡_, refl, sym, ap, ap₂, _∙_}
+use mathlib.Core.Path.{_≡_, refl, sym, ap, _∙_}
 use mathlib.Core.List.{List, [], _∷_}
 use mathlib.Core.Bool.{Bool, true, false, _&&_, and-eq-true-iff}
-use Prim.Native.Nat.{ℕ, zero, suc, _+_, _-_, _%_, _^_, _≤_, _<_, min}
+use Prim.Native.Nat.{ℕ, zero, suc, _+_, _%_, _^_, _≤_, _<_, min}
 use native.Mathlib.Omega.{arith}
 use native.Mathlib.Nat.{mod-eq-of-lt}
 use borrow.Author.Tests.{ltb-true, ltb-false, eqb-true, eqb-false, leb-true, eq-eqb, ne-eqb}
 use lib.Dec.{eqb, ltb, leb}
 use lib.ListN.{length, getD, take}
-use lib.Seq.{length-take-le, getD-take, take-all}
+use lib.Seq.{length-take-le, getD-take}
 use Rattle.lists.specs.Views.{all}
 use Rattle.lists.proofs.Turns.{take-least}
 use Rattle.lists.proofs.Bools.{by, clash, untrue}
@@ -18,6 +18,7 @@ use Rattle.rules.specs.Messages.{layout, byKind}
 use Rattle.rules.specs.declared.Message.{Message}
 use Rattle.text.specs.Lines.{fieldParts, formed, has32Bits, ofNumbers}
 use Rattle.text.specs.Machine.{Formed}
+use Rattle.text.proofs.EachKind.{made, known-kind}
 
 pub all-at : {A : Type 0} (p : A → Bool) (xs : List A) (i : ℕ) (d : A) → i < length xs → all p xs ≡ true → p (getD xs i d) ≡ true
 all-at p [] i d h e = absurd (omega arith)
@@ -84,38 +85,27 @@ unknown k no-board no-request no-open no-clock =
     omega (arith, leb-true 1 k (known .0), leb-true k 4 (known .1))
 
 -- Each kind has its numbers in its fields.
-abbrev pub made : ℕ → ℕ → ℕ → ℕ → ℕ → Message
-made kind byte first second third = record { kind = kind; byte = byte; first = first; second = second; third = third }
-
 abbrev pub low : List ℕ → ℕ → ℕ
 low ns i = getD ns i 0 % 2 ^ 32
 
-made-low : (count : ℕ) (ns : List ℕ) → Formed count ns → ofNumbers (take count ns)
-    ≡ byKind (getD ns 1 0) (made 1 (low ns 2) (low ns 3) (low ns 4) (low ns 5)) (made 2 (low ns 2) (low ns 3) (low ns 4) 0) (made 3 0 0 0 0) (made 4 0 (low ns 2) 0 0)
-unfolding ofNumbers fieldParts layout
-made-low count (v ∷ k ∷ a ∷ b ∷ c ∷ d ∷ []) f =
-    by (eqb k 1)
-    (λ e.
-    let kind = eqb-true k 1 e in
-    let n : count ≡ 6 = fields-count f ∙ rw kind in
-    rw (kept f 2 (omega arith), kept f 3 (omega arith), kept f 4 (omega arith), kept f 5 (omega arith), n, kind))
-    (λ no-board.
-    by (eqb k 2)
-    (λ e.
-    let kind = eqb-true k 2 e in
-    let n : count ≡ 5 = fields-count f ∙ rw kind in
-    rw (kept f 2 (omega arith), kept f 3 (omega arith), kept f 4 (omega arith), n, kind))
-    (λ no-request.
-    by (eqb k 3)
-    (λ e.
-    let kind = eqb-true k 3 e in
-    let n : count ≡ 2 = fields-count f ∙ rw kind in
-    rw (n, kind))
-    (λ no-open.
-    let known = and-eq-true-iff (leb 1 k) (leb k 4) .0 (kind-known f) in
-    let kind : k ≡ 4 = omega (arith, leb-true 1 k (known .0), leb-true k 4 (known .1), eqb-false k 1 no-board, eqb-false k 2 no-request, eqb-false k 3 no-open) in
-    let n : count ≡ 3 = fields-count f ∙ rw kind in
-    rw (kept f 2 (omega arith), n, kind))))
+abbrev by-kind : ℕ → ℕ → ℕ → ℕ → ℕ → Message
+by-kind k a b c d = byKind k (made 1 a b c d) (made 2 a b c 0) (made 3 0 0 0 0) (made 4 0 a 0 0)
+
+module _ (count v a b c d : ℕ) where
+  abbrev six-with : ℕ → List ℕ
+  six-with k = v ∷ k ∷ a ∷ b ∷ c ∷ d ∷ []
+
+  made-six : (k : ℕ) → within 1 4 k ≡ true → Formed count (six-with k) → ofNumbers (take count (six-with k)) ≡ by-kind k (a % 2 ^ 32) (b % 2 ^ 32) (c % 2 ^ 32) (d % 2 ^ 32)
+  unfolding ofNumbers fieldParts layout
+  made-six =
+      known-kind (λ k. Formed count (six-with k) → ofNumbers (take count (six-with k)) ≡ by-kind k (a % 2 ^ 32) (b % 2 ^ 32) (c % 2 ^ 32) (d % 2 ^ 32))
+      (λ f. let n : count ≡ 6 = fields-count f in rw (kept f 2 (omega arith), kept f 3 (omega arith), kept f 4 (omega arith), kept f 5 (omega arith), n))
+      (λ f. let n : count ≡ 5 = fields-count f in rw (kept f 2 (omega arith), kept f 3 (omega arith), kept f 4 (omega arith), n))
+      (λ f. let n : count ≡ 2 = fields-count f in rw n)
+      (λ f. let n : count ≡ 3 = fields-count f in rw (kept f 2 (omega arith), n))
+
+made-low : (count : ℕ) (ns : List ℕ) → Formed count ns → ofNumbers (take count ns) ≡ by-kind (getD ns 1 0) (low ns 2) (low ns 3) (low ns 4) (low ns 5)
+made-low count (v ∷ k ∷ a ∷ b ∷ c ∷ d ∷ []) f = made-six count v a b c d k (kind-known f) f
 made-low count [] f = absurd (omega (arith, f .six))
 made-low count (v ∷ []) f = absurd (omega (arith, f .six))
 made-low count (v ∷ k ∷ []) f = absurd (omega (arith, f .six))
@@ -125,7 +115,7 @@ made-low count (v ∷ k ∷ a ∷ b ∷ c ∷ []) f = absurd (omega (arith, f .s
 made-low count (v ∷ k ∷ a ∷ b ∷ c ∷ d ∷ e ∷ ns) f = absurd (omega (arith, f .six))
 
 pub made-of : (count : ℕ) (ns : List ℕ) → Formed count ns → {a b c d : ℕ} → a ≡ low ns 2 → b ≡ low ns 3 → c ≡ low ns 4 → d ≡ low ns 5
-    → ofNumbers (take count ns) ≡ byKind (getD ns 1 0) (made 1 a b c d) (made 2 a b c 0) (made 3 0 0 0 0) (made 4 0 a 0 0)
+    → ofNumbers (take count ns) ≡ by-kind (getD ns 1 0) a b c d
 made-of count ns f a b c d = rw (a, b, c, d) (made-low count ns f)
 
 -- more than six of six are six

@@ -1,6 +1,6 @@
 -- A piece, byte by byte: what is left of it makes of the line what the whole makes of the line before it.
-use mathlib.Core.Path.{_≡_, refl, sym, ap, _∙_}
-use mathlib.Core.List.{List, [], _∷_}
+use mathlib.Core.Path.{_≡_, sym, ap, _∙_}
+use mathlib.Core.List.{List, _∷_}
 use mathlib.Core.Logic.{⊎-elim}
 use Prim.Native.Nat.{ℕ, _+_, _≤_, _<_}
 use native.Mathlib.Omega.{arith}
@@ -11,7 +11,7 @@ use lib.Seq.{drop-cons}
 use Rattle.message.specs.Outcomes.{wrote}
 use Rattle.rules.specs.Calls.{Reply, WriterOutcome}
 use Rattle.rules.specs.Calls.Reply.{refused, accepted}
-use Rattle.rules.specs.Replies.{read, asked, number}
+use Rattle.rules.specs.Replies.{read, number}
 use Rattle.rules.specs.declared.Asked.{Asked}
 use Rattle.rules.specs.declared.Read.{Read}
 use Rattle.rules.specs.declared.Refusal.{Refusal}

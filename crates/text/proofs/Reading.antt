@@ -1,22 +1,20 @@
 -- The bytes of a line, one after the other, leave what its words say: by induction on the bytes, over the line that was begun before them.
-use mathlib.Core.Path.{_≡_, refl, sym, subst, ap, ap₂, _∙_}
+use mathlib.Core.Path.{_≡_, refl, sym, subst, ap, _∙_}
 use mathlib.Core.List.{List, [], _∷_, _++_, map, append-assoc}
-use mathlib.Core.Bool.{Bool, true, false, cond, not, _&&_, _||_, and-eq-true-iff}
-use Prim.Native.Nat.{ℕ, suc, _+_, _*_, _-_, _^_, _≤_, _<_, min}
+use mathlib.Core.Bool.{Bool, true, false, not, _&&_, _||_, and-eq-true-iff}
+use Prim.Native.Nat.{ℕ, suc, _+_, _≤_, _<_}
 use native.Mathlib.Omega.{arith}
 use native.Mathlib.Nat.{zero-add}
 use native.Mathlib.Numerals.{add-one}
-use borrow.Author.Tests.{ltb-true, ltb-false, lt-ltb, le-ltb, eqb-true, eqb-false, eq-eqb, ne-eqb, leb-true, leb-false, le-leb, lt-leb}
+use borrow.Author.Tests.{ltb-true, ltb-false, ne-eqb, leb-true, leb-false, le-leb, lt-leb}
 use lib.Dec.{eqb, ltb, leb}
 use lib.ListN.{length, take, set, length-set, length-map}
 use lib.Seq.{take-suc-set}
 use Rattle.lists.specs.Views.{all}
-use Rattle.lists.proofs.Bools.{by, clash, untrue}
+use Rattle.lists.proofs.Bools.{by, clash}
 use Rattle.rules.specs.Messages.{layout}
-use Rattle.rules.specs.Calls.{Reply}
-use Rattle.rules.specs.declared.Message.{Message}
 use Rattle.text.specs.Decimals.{isDigit, isDecimal, some, value, behind, tenfold}
-use Rattle.text.specs.Lines.{onto, split, fieldParts, numbers, formed, readNumbers, readLine}
+use Rattle.text.specs.Lines.{split, fieldParts, numbers, formed, readNumbers, readLine}
 use Rattle.text.specs.Machine.{fresh, next, digit, ends, breaks, says, capped}
 use Rattle.text.specs.declared.Begun.{Begun}
 use Rattle.text.proofs.Splitting.{pieces}

@@ -1,26 +1,26 @@
 -- Room: a byte ends at most one line, and a line gives at most twenty bytes. So with twenty bytes for each byte of a piece, 14 is never given, and what was
 -- written ends within the slice.
-use mathlib.Core.Path.{_≡_, refl, sym, ap, _∙_}
+use mathlib.Core.Path.{_≡_, refl, ap, _∙_}
 use mathlib.Core.List.{List, [], _∷_}
-use mathlib.Core.Bool.{Bool, true, false, not, _&&_}
+use mathlib.Core.Bool.{Bool, not, _&&_}
 use mathlib.Core.Logic.{_⊎_, inl, inr, ⊎-elim}
-use Prim.Native.Nat.{ℕ, suc, _+_, _*_, _≤_, _<_}
+use Prim.Native.Nat.{ℕ, _+_, _*_, _≤_, _<_}
 use native.Mathlib.Omega.{arith}
 use borrow.Author.Tests.{ltb-true, ltb-false}
-use lib.Dec.{eqb, ltb}
+use lib.Dec.{eqb}
 use lib.ListN.{length, take}
 use Rattle.lists.specs.Views.{all}
 use Rattle.lists.proofs.Bools.{by}
 use Rattle.message.proofs.Encoding.{encoded-length}
 use Rattle.message.proofs.Placing.{placed-length}
 use Rattle.rules.specs.Messages.{encoded}
-use Rattle.rules.specs.Refusals.{Refuses, writerRules, judged}
+use Rattle.rules.specs.Refusals.{Refuses, writerRules}
 use Rattle.rules.specs.Calls.{Reply, WriterOutcome, writerCall, placedAt}
 use Rattle.rules.specs.Calls.Reply.{refused, accepted}
 use Rattle.rules.specs.declared.Message.{Message}
 use Rattle.rules.proofs.Refusing.{judged-cases, refused-exactly}
-use Rattle.text.specs.Lines.{formed, has32Bits, readNumbers, writeRead, onReply, soFar}
-use Rattle.text.specs.Machine.{PieceOutcome, fresh, next, ends, says, lineEnd, pieceCall, leaving}
+use Rattle.text.specs.Lines.{formed, has32Bits, readNumbers, writeRead}
+use Rattle.text.specs.Machine.{PieceOutcome, fresh, next, ends, says, lineEnd, pieceCall}
 use Rattle.text.specs.declared.Begun.{Begun}
 
 -- A line is refused and nothing is touched, with 14 only where there is no room; or there was room, and the slice keeps its length.

@@ -1,19 +1,17 @@
 -- A whole text taken as one piece, with its end, is its lines one after the other: by induction on the bytes, over the line that was begun before them.
-use mathlib.Core.Path.{_≡_, refl, sym, ap, ap₂, subst, _∙_}
+use mathlib.Core.Path.{_≡_, refl, ap, _∙_}
 use mathlib.Core.List.{List, [], _∷_, _++_}
-use mathlib.Core.Bool.{Bool, true, false, _&&_, _||_}
+use mathlib.Core.Bool.{true, _&&_}
 use Prim.Native.Nat.{ℕ, _+_}
 use native.Mathlib.Omega.{arith}
 use borrow.Author.Tests.{lt-ltb}
 use lib.Dec.{eqb, ltb}
-use lib.ListN.{length}
 use Rattle.lists.proofs.Bools.{by}
-use Rattle.rules.specs.Refusals.{_when_, judged}
-use Rattle.rules.specs.Calls.{Reply, WriterOutcome}
+use Rattle.rules.specs.Calls.{Reply}
 use Rattle.rules.specs.Calls.Reply.{refused, accepted}
 use Rattle.text.specs.Decimals.{some, isDigit}
 use Rattle.text.specs.Lines.{TextOutcome, split, onReply, soFar, writeRead, lineCall, linesCall, textCall}
-use Rattle.text.specs.Machine.{PieceOutcome, fresh, next, ends, says, lineEnd, begun, endCall, pieceCall, leaving, taken}
+use Rattle.text.specs.Machine.{PieceOutcome, fresh, next, lineEnd, begun, endCall, pieceCall, leaving, taken}
 use Rattle.rules.specs.Replies.{asked, number}
 use Rattle.rules.specs.declared.Asked.{Asked}
 use Rattle.rules.specs.declared.Refusal.{Refusal}

@@ -107,14 +107,17 @@ pub record TextOutcome : Type 0 where
   pub reply : Reply Unit
   pub slice : List ℕ
 
+-- by a reply: what to make of a refusal, and what of an acceptance
 abbrev pub onReply : {A B : Type 0} → Reply A → (ℕ → B) → (A → B) → B
 onReply (refused n) refuse accept = refuse n
 onReply (accepted a) refuse accept = accept a
 
+-- the outcome with this much written
 abbrev pub soFar : ℕ → ℕ → List ℕ → Reply Unit → TextOutcome
 soFar messages at slice reply = record { messages = messages; place = at; reply = reply; slice = slice }
 
--- It stops at the first line that is refused. What is behind the last line feed must be empty: a last line without its line feed is not of the form.
+-- Lines behind so many messages that are written: the first that is refused ends it. What is behind the last line feed must be empty: a last line without its
+-- line feed is not of the form.
 unfoldable pub linesCall : List (List ℕ) → ℕ → List ℕ → ℕ → TextOutcome
 linesCall [] messages slice at = soFar messages at slice (accepted tt)
 linesCall (rest ∷ []) messages slice at = soFar messages at slice (judged (15 when some rest ∷ []) refused (accepted tt))

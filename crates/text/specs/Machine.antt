@@ -2,7 +2,7 @@
 use mathlib.Core.Path.{_≡_}
 use mathlib.Core.List.{List, [], _∷_}
 use mathlib.Core.Bool.{Bool, true, false, cond, not, _&&_, _||_}
-use Prim.Native.Nat.{ℕ, _+_, _*_, _-_, _^_, _≤_, min}
+use Prim.Native.Nat.{ℕ, _+_, _^_, _≤_, min}
 use lib.Dec.{eqb, ltb}
 use lib.ListN.{length, take, set, replicate}
 use Rattle.lists.specs.Views.{all}
@@ -11,7 +11,6 @@ use Rattle.rules.specs.Calls.{Reply, WriterOutcome}
 use Rattle.rules.specs.Calls.Reply.{refused, accepted}
 use Rattle.rules.specs.Replies.{asked}
 use Rattle.rules.specs.declared.Message.{Message}
-use Rattle.rules.specs.declared.Asked.{Asked}
 use Rattle.text.specs.Decimals.{isDigit, tenfold}
 use Rattle.text.specs.Lines.{space, lineFeed, formed, has32Bits, readNumbers, writeRead, TextOutcome, onReply, soFar}
 use Rattle.text.specs.declared.Begun.{Begun}
@@ -42,7 +41,7 @@ ends s =
 unfoldable pub next : Begun → ℕ → Begun
 next s byte = cond (isDigit byte) (digit s byte) (cond (eqb byte space) (ends s) (breaks s))
 
--- Some of six numbers that a line of the form has, each within 32 bits.
+-- So many of six numbers are of the form, each within 32 bits.
 pub record Formed (count : ℕ) (ns : List ℕ) : Type 0 where
   pub six : length ns ≡ 6
   pub few : count ≤ 6

@@ -1,7 +1,6 @@
 -- Both slices keep their lengths; the measure counts the reads down.
 use mathlib.Core.Path.{_≡_}
-use lib.ListN.{length, length-take}
-use native.Mathlib.Omega.{arith}
+use lib.ListN.{length}
 use borrow.Author.Needs.{needs}
 use Rattle.from_text.proofs.run.Statement.{statement}
 use Rattle.from_text.proofs.run.Tie as tie

@@ -1,11 +1,7 @@
 -- The version, the kind and the count are asked in turn.
-use mathlib.Core.Path.{_≡_, sym, _∙_}
-use mathlib.Core.Bool.{false}
-use native.Mathlib.Omega.{arith}
+use mathlib.Core.Path.{sym, _∙_}
 use borrow.Author.Needs.{needs}
-use borrow.Author.Tests.{eq-eqb, ne-eqb, lt-leb, le-leb}
-use lib.ListN.{getD}
-use Rattle.rules.specs.Desk.{within}
+use borrow.Author.Tests.{ne-eqb}
 use Rattle.rules.specs.Messages.{layout}
 use Rattle.text.specs.Lines.{fieldParts}
 use Rattle.text.proofs.Numbers.{too-few, counted, unknown}

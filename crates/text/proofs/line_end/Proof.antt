@@ -1,5 +1,5 @@
 -- What the line's numbers say is written, or refused.
-use mathlib.Core.Path.{_≡_, sym, ap, _∙_}
+use mathlib.Core.Path.{sym, ap, _∙_}
 use Rattle.rules.specs.Replies.{read}
 use Rattle.text.specs.Lines.{writeRead}
 use Rattle.text.proofs.Pieces.{ended}

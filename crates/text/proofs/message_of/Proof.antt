@@ -5,9 +5,9 @@ use Prim.Native.Nat.{ℕ}
 use borrow.Author.Tests.{ne-eqb}
 use lib.ListN.{getD, take}
 use Rattle.rules.specs.Messages.{byKind}
-use Rattle.rules.specs.declared.Message.{Message}
 use Rattle.text.specs.Lines.{ofNumbers}
-use Rattle.text.proofs.Numbers.{made, made-of}
+use Rattle.text.proofs.EachKind.{made}
+use Rattle.text.proofs.Numbers.{made-of}
 use borrow.Author.Needs.{needs}
 use Rattle.text.proofs.message_of.Statement.{statement}
 use Rattle.text.proofs.message_of.Tie as tie

@@ -1,9 +1,6 @@
 -- The tests in the order of the rules; more than six numbers are six.
 use mathlib.Core.Path.{_≡_, sym, ap, _∙_}
-use mathlib.Core.List.{List}
 use mathlib.Core.Bool.{true, false}
-use Prim.Native.Nat.{ℕ, _≤_, min}
-use native.Mathlib.Omega.{arith}
 use borrow.Author.Tests.{not-true, not-false}
 use lib.ListN.{length, take, length-map}
 use Rattle.lists.specs.Views.{all}

@@ -1,12 +1,10 @@
 -- The invariant: whether all are within 32 bits is whether all that are left are.
 use mathlib.Core.Path.{_≡_, refl, sym, ap, _∙_}
-use mathlib.Core.Bool.{true, false}
 use mathlib.Core.List.{_∷_}
 use Prim.Native.Nat.{_+_, _-_, _≤_}
 use native.Mathlib.Omega.{arith}
-use borrow.Author.Needs.{needs}
 use borrow.Author.Tests.{lt-ltb, le-ltb}
-use lib.ListN.{length, take, drop, getD}
+use lib.ListN.{take, drop, getD}
 use Rattle.lists.specs.Views.{all}
 use Rattle.lists.proofs.Turns.{turn, turned}
 use Rattle.text.specs.Lines.{has32Bits}

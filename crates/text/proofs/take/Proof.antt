@@ -3,7 +3,7 @@ use mathlib.Core.Path.{_≡_, refl, sym, ap, _∙_}
 use Prim.Native.Nat.{_+_, _-_, _≤_}
 use native.Mathlib.Omega.{arith}
 use borrow.Author.Needs.{needs}
-use lib.ListN.{length, drop, getD, drop-of-length-le}
+use lib.ListN.{length, drop}
 use Rattle.message.specs.Outcomes.{wrote}
 use Rattle.rules.specs.declared.Asked.{Asked}
 use Rattle.text.specs.Machine.{lineEnd, pieceCall}
