@@ -1,7 +1,7 @@
 -- Best first. In a falling list those before an element are just those above it; so "fewer than cap before it" is "fewer than cap above it".
 use mathlib.Core.Path.{_≡_, refl, sym, ap, ap₂, _∙_}
-use mathlib.Core.List.{List, [], _∷_, List·Memᴰ·head, List·Memᴰ·tail, List·Memᴰ·not-nil, List·Memᴰ·cases-cons, Memᴰ·cast}
-use mathlib.Core.Bool.{Bool, true, false, cond, _&&_, and-eq-true-iff}
+use mathlib.Core.List.{List, [], _∷_, _++_, List·Memᴰ·head, List·Memᴰ·tail, List·Memᴰ·not-nil, List·Memᴰ·cases-cons, Memᴰ·cast}
+use mathlib.Core.Bool.{Bool, true, false, cond, _&&_, and-assoc, and-eq-true-iff}
 use mathlib.Core.Logic.{_⊎_, inl, inr, _↔_}
 use Prim.Native.Nat.{ℕ, zero, suc, _+_, _-_, _≤_, _<_, min}
 use native.Mathlib.Omega.{arith}
@@ -38,6 +38,11 @@ module _ {A : Type 0} (p : A → Bool) where
   of-all [] h m = absurd (List·Memᴰ·not-nil m)
   of-all (y ∷ ys) h (List·Memᴰ·head e) = ap p e ∙ and-eq-true-iff (p y) (all p ys) .0 h .0
   of-all (y ∷ ys) h (List·Memᴰ·tail m) = of-all ys (and-eq-true-iff (p y) (all p ys) .0 h .1) m
+
+  -- one list, and another behind it
+  pub all-append : (xs ys : List A) → all p (xs ++ ys) ≡ (all p xs && all p ys)
+  all-append [] ys = refl
+  all-append (x ∷ xs) ys = ap (λ b. p x && b) (all-append xs ys) ∙ sym (and-assoc (p x) (all p xs) (all p ys))
 
   pub length-those : (xs : List A) → length (those p xs) ≡ count p xs
   length-those [] = refl

@@ -13,7 +13,7 @@ use Rattle.lists.specs.Views.{all}
 use Rattle.rules.specs.Messages.{numberAt, places, Part, isField, Holds, zeroPlaces, isZero, valueOf, digits, laid}
 use Rattle.rules.specs.declared.Message.{Message}
 use Rattle.message.specs.Encoding.{Bytes}
-use Rattle.message.proofs.Loops.{all-append}
+use Rattle.lists.proofs.Best.{all-append}
 use Rattle.message.proofs.Numbers.{digits-of, digits-length, number-part, number-more, zero-number}
 use Rattle.message.proofs.Parts.{Each, Joined, zeroParts, zero-same}
 

@@ -1,14 +1,13 @@
 -- A loop's answer is that of what it has passed and of what is left; each law takes one step, or the end, off what is left.
-use mathlib.Core.Path.{_≡_, refl, sym, ap, _∙_}
-use mathlib.Core.List.{List, [], _∷_, _++_}
-use mathlib.Core.Bool.{Bool, true, _&&_, and-assoc}
+use mathlib.Core.Path.{_≡_}
+use mathlib.Core.List.{List, _∷_}
+use mathlib.Core.Bool.{true, _&&_}
 use Prim.Native.Nat.{ℕ, suc, _+_, _-_, _≤_, _<_}
 use native.Mathlib.Omega.{arith}
 use native.Mathlib.Numerals.{add-one}
 use lib.Dec.{eqb}
 use lib.ListN.{length, getD, drop, drop-of-length-le}
 use lib.Seq.{drop-cons}
-use Rattle.lists.specs.Views.{all}
 use Rattle.rules.specs.Messages.{sameBytes, places}
 
 pub same-step : (xs ys : List ℕ) (i : ℕ) → i < length xs → i < length ys
@@ -22,8 +21,3 @@ pub places-step : (at end : ℕ) → at < end → places at (end - at) ≡ at �
 places-step at end h =
     let e : end - at ≡ suc (end - (at + 1)) = omega arith in
     rw (e, add-one)
-
--- a test of one list and of another behind it
-pub all-append : {A : Type 0} (p : A → Bool) (xs ys : List A) → all p (xs ++ ys) ≡ (all p xs && all p ys)
-all-append p [] ys = refl
-all-append p (x ∷ xs) ys = ap (λ b. p x && b) (all-append p xs ys) ∙ sym (and-assoc (p x) (all p xs) (all p ys))

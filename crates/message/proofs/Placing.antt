@@ -1,11 +1,11 @@
--- Bytes placed in a slice: bytes placed right behind others are placed with them, and the last byte may be put first.
+-- Bytes placed in a slice: the slice keeps its length, bytes placed right behind others are placed with them, and the last byte may be put first.
 use mathlib.Core.Path.{_≡_, sym, ap, _∙_}
 use mathlib.Core.List.{List, [], _∷_, _++_, append-assoc}
 use Prim.Native.Nat.{ℕ, suc, _+_, _≤_, _<_}
 use native.Mathlib.Omega.{arith}
 use native.Mathlib.Nat.{add-zero}
 use lib.ListN.{length, take, drop, set, length-append, take-append-drop}
-use lib.Seq.{paste, length-take-le, take-length, take-at, drop-at, take-set-le, set-split, drop-drop}
+use lib.Seq.{paste, length-take-le, length-paste, take-length, take-at, drop-at, take-set-le, set-split, drop-drop}
 use Rattle.lists.proofs.Fronts.{drop-past}
 use Rattle.rules.specs.Calls.{placedAt}
 use Rattle.rules.specs.Messages.{mark, digits}
@@ -19,6 +19,9 @@ pub placed-paste : (at : ℕ) (bytes slice : List ℕ) → paste slice at bytes 
 placed-paste at bytes slice = rw (take-length bytes) (append-assoc (take at slice) bytes (drop (at + length bytes) slice))
 
 module _ (at : ℕ) (xs : List ℕ) where
+  pub placed-length : (slice : List ℕ) → at + length xs ≤ length slice → length (placedAt at xs slice) ≡ length slice
+  placed-length slice h = ap length (sym (placed-paste at xs slice)) ∙ length-paste slice at xs (length xs) h (omega arith)
+
   -- bytes right behind others
   placed-behind : (ys slice : List ℕ) {next : ℕ} → next ≡ at + length xs → next ≤ length slice → placedAt next ys (placedAt at xs slice) ≡ placedAt at (xs ++ ys) slice
   placed-behind ys slice {next} e h =

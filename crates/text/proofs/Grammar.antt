@@ -9,7 +9,7 @@ use lib.Dec.{eqb, leb}
 use lib.ListN.{length, length-map}
 use Rattle.lists.specs.Views.{all}
 use Rattle.lists.proofs.Bools.{by, clash}
-use Rattle.message.proofs.Parts.{all-append}
+use Rattle.lists.proofs.Best.{all-append}
 use Rattle.rules.specs.Desk.{within}
 use Rattle.rules.specs.Messages.{layout, own, blank}
 use Rattle.rules.specs.Calls.{Reply}

@@ -11,7 +11,7 @@ use lib.Dec.{eqb}
 use lib.ListN.{length, take}
 use Rattle.lists.specs.Views.{all}
 use Rattle.lists.proofs.Bools.{by}
-use Rattle.message.proofs.Encoding.{encoded-length}
+use Rattle.message.proofs.Standing.{encoded-length}
 use Rattle.message.proofs.Placing.{placed-length}
 use Rattle.rules.specs.Messages.{encoded}
 use Rattle.rules.specs.Refusals.{Refuses, writerRules}
@@ -64,7 +64,7 @@ written-or-not (accepted m) h slice at =
     inr (record {
       room = room;
       done = ap (λ (o : WriterOutcome). o .reply) done;
-      kept = ap (λ (o : WriterOutcome). length (o .slice)) done ∙ placed-length at (encoded 1 m) slice (omega (arith, encoded-length 1 m []));
+      kept = ap (λ (o : WriterOutcome). length (o .slice)) done ∙ placed-length at (encoded 1 m) slice (omega (arith, encoded-length 1 m));
     }))
     (judged-cases (writerRules 1 m (length slice) at))
 

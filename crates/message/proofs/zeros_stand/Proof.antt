@@ -8,7 +8,7 @@ use borrow.Author.Tests.{ne-eqb}
 use lib.Dec.{eqb}
 use Rattle.lists.specs.Views.{all}
 use Rattle.rules.specs.Messages.{layout, places, zeroPlaces, isZero, zerosStand}
-use Rattle.message.proofs.Loops.{all-append}
+use Rattle.lists.proofs.Best.{all-append}
 use Rattle.message.proofs.zeros_stand.Statement.{statement}
 use Rattle.message.proofs.zeros_stand.Tie as tie
 
