@@ -1,3 +1,4 @@
+-- The end of the input is refused with 15 or not at all.
 use mathlib.Core.Path.{_≡_, sym, _∙_}
 use Prim.Native.Nat.{ℕ}
 use native.Mathlib.Omega.{arith}

@@ -1,3 +1,4 @@
+-- The refusal that is said is the one in the answer, so it is not 14.
 use mathlib.Core.Path.{ap, _∙_}
 use Rattle.rules.specs.Calls.Reply.{refused}
 use Rattle.rules.specs.Replies.{asked}

@@ -1,3 +1,4 @@
+-- A number that has a digit and a place is kept; any other breaks the form.
 use borrow.Author.Needs.{needs}
 use borrow.Author.Tests.{lt-ltb, le-ltb}
 use Rattle.text.proofs.ends.Statement.{statement}

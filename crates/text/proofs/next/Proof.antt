@@ -1,3 +1,4 @@
+-- A byte is a digit, the space, or breaks the form.
 use mathlib.Core.Path.{_∙_}
 use borrow.Author.Needs.{needs}
 use borrow.Author.Tests.{ne-eqb, le-leb, lt-leb}

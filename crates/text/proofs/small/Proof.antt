@@ -1,7 +1,7 @@
 -- The invariant: whether all are within 32 bits is whether all that are left are.
 use mathlib.Core.Path.{_≡_, refl, sym, ap, _∙_}
 use mathlib.Core.List.{_∷_}
-use Prim.Native.Nat.{_+_, _-_, _≤_}
+use Prim.Native.Nat.{ℕ, _+_, _-_, _≤_, _^_}
 use native.Mathlib.Omega.{arith}
 use borrow.Author.Tests.{lt-ltb, le-ltb}
 use lib.ListN.{take, drop, getD}
@@ -26,14 +26,17 @@ mul-if1 c = omega arith
 element-copy-out-if1 : tie.Need-element-copy-out-if1 Inv-loop μ-loop
 element-copy-out-if1 c = omega arith
 
+abbrev number : tie.In-loop Inv-loop μ-loop → ℕ
+number c = getD (c .before .before .args .numbers .now) (c .before .loop .i) 0
+
 here : (c : tie.In-loop Inv-loop μ-loop) → drop (c .before .loop .i) (take (c .before .before .args .count) (c .before .before .args .numbers .now))
-    ≡ getD (c .before .before .args .numbers .now) (c .before .loop .i) 0 ∷ drop (c .before .loop .i + 1) (take (c .before .before .args .count) (c .before .before .args .numbers .now))
+    ≡ number c ∷ drop (c .before .loop .i + 1) (take (c .before .before .args .count) (c .before .before .args .numbers .now))
 here c = turn _ _ 0 (c .before .before .pre .1) (c .before .loop .i) (c .loop-test .taken)
 
 returns : tie.Need-returns Inv-loop μ-loop
 returns c =
     let s = c .before .before in
-    sym (s .before .loop .inv .1 ∙ ap (all has32Bits) (here s) ∙ rw (le-ltb _ _ (c .if1 .taken)))
+    sym (s .before .loop .inv .1 ∙ ap (all has32Bits) (here s) ∙ rw (le-ltb (number s) (2 ^ 32) (omega (arith, c .if1 .taken))))
 
 add-i : tie.Need-add-i Inv-loop μ-loop
 add-i c = omega arith
@@ -44,7 +47,7 @@ loop-less c = omega arith
 loop-again : tie.Need-loop-again Inv-loop μ-loop
 loop-again c =
     let s = c .before .before in
-    (omega arith, s .before .loop .inv .1 ∙ ap (all has32Bits) (here s) ∙ rw (lt-ltb _ _ (c .if1 .left)))
+    (omega arith, s .before .loop .inv .1 ∙ ap (all has32Bits) (here s) ∙ rw (lt-ltb (number s) (2 ^ 32) (omega (arith, c .if1 .left))))
 
 returns-2 : tie.Need-returns-2 Inv-loop μ-loop
 returns-2 c =
