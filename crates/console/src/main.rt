@@ -1,4 +1,6 @@
 // Document 01, "The console program": messages from standard input go to a desk, and what it answers is printed.
+#![tactic(auto)]
+
 ghost use Rattle.std.specs.Prelude.{◌≡◌, ◌+◌, ◌<◌, ◌≤◌, length};
 ghost use Rattle.console.specs.Output.{Waiting};
 ghost use Rattle.console.specs.Steps.{short_of, Blocks, Shown};
@@ -12,7 +14,7 @@ const REPLY: usize = 3136;
 const LINE: usize = 71;
 
 // The desk after some messages, how many they were, and how many bytes after them are no whole message.
-#[derive(Drop)]
+#[derive(Clone, Copy)]
 struct Progress {
     desk: Desk,
     place: u64,

@@ -1,4 +1,6 @@
 // The desk and its calls. A desk goes in by value and comes back by value, with the answer beside it.
+#![tactic(auto)]
+
 ghost use Rattle.std.specs.Prelude.{◌≡◌, [], false, ◌≤◌, min, length, take as first};
 ghost use Rattle.rules.specs.Desk.{fresh as fresh_desk};
 ghost use Rattle.rules.specs.Moments.{reached as reached_by};
@@ -12,19 +14,19 @@ use rules::{
     Answered, Asked, Board, Desk, Entry, Found, Measured, Message, Refusal, Stepped, Time,
 };
 
-#[derive(Drop)]
+#[derive(Clone, Copy)]
 pub struct Called {
     pub desk: Desk,
     pub answer: Asked,
 }
 
-#[derive(Drop)]
+#[derive(Clone, Copy)]
 pub struct Moved {
     pub desk: Desk,
     pub answer: Stepped,
 }
 
-#[derive(Drop)]
+#[derive(Clone, Copy)]
 pub struct Taken {
     pub desk: Desk,
     pub answer: Answered,

@@ -1,4 +1,6 @@
 // The desk for callers in C or Rust: it is lent, a message goes in as numbers, and what is answered comes back as numbers.
+#![tactic(auto)]
+
 ghost use Rattle.std.specs.Prelude.{◌≡◌};
 ghost use Rattle.rules.specs.Replies.{answered};
 ghost use Rattle.foreign.specs.Foreign.{numbers_call, replied, Left};
@@ -7,7 +9,7 @@ use rules::{Answered, Desk, Message};
 
 // The refusal is 0 where the message was accepted; the others are 0 but after an accepted step.
 #[repr(C)]
-#[derive(Drop)]
+#[derive(Clone, Copy)]
 pub struct Replied {
     pub refusal: u32,
     pub clock: u32,
@@ -15,7 +17,7 @@ pub struct Replied {
     pub words: u32,
 }
 
-#[derive(Drop)]
+#[derive(Clone, Copy)]
 struct Given {
     desk: Desk,
     replied: Replied,

@@ -1,4 +1,6 @@
 // Document 02, item 1: the text lines on standard input become a file of messages on standard output. It stops at the first line that is refused.
+#![tactic(auto)]
+
 ghost use Rattle.std.specs.Prelude.{◌≡◌, ◌*◌, ◌≤◌, length, ◌≢◌};
 ghost use Rattle.rules.specs.Calls.Reply.{refused};
 ghost use Rattle.rules.specs.Replies.{number, asked};
@@ -12,7 +14,7 @@ const PIECE: usize = 16384;
 const ROOM: usize = 327680;
 
 // The line that is left begun, how many lines were written, and whether there is more to do.
-#[derive(Drop)]
+#[derive(Clone, Copy)]
 struct Progress {
     line: Begun,
     place: u64,

@@ -1,4 +1,6 @@
 // The stepping call on a clock and phase that are lent.
+#![tactic(auto)]
+
 ghost use Rattle.std.specs.Prelude.{◌≡◌};
 ghost use Rattle.rules.specs.Calls.{step_call};
 ghost use Rattle.desk.specs.Outcomes.{step_outcome};

@@ -1,5 +1,7 @@
 // Document 01, "Messages": the reader, and document 02's writer. A message is the first 20 bytes of what the reader is given, and the rest is handed on; the
 // writer puts 20 bytes into a lent slice from a place on.
+#![tactic(auto)]
+
 ghost use Rattle.std.specs.Prelude.{◌≡◌, ◌+◌, ◌-◌, ◌≤◌, length};
 ghost use Rattle.lists.specs.Views.{all};
 ghost use Rattle.rules.specs.Calls.{reader_call, writer_call, placed_at};
@@ -165,7 +167,7 @@ fn zeros_stand(bytes: &[u8], kind: u8) -> bool
 }
 
 // The fields of a message are in their ranges. The last arm is the clock's, as above.
-fn fields_fit_lem(fields: Message) -> bool
+fn fields_fit(fields: Message) -> bool
     ensures { result ≡ fields_fit fields }
 {
     let kind = fields.kind;

@@ -1,4 +1,6 @@
 // 99: whether a desk's value is in disorder, whatever numbers stand in its fields.
+#![tactic(auto)]
+
 ghost use Rattle.std.specs.Prelude.{◌≡◌, true, ◌&&◌, ◌+◌, ◌≤◌, leb, take};
 ghost use Rattle.lists.specs.Views.{all};
 ghost use Rattle.rules.specs.Desk.{board_fits, need as need_of, needs, loaded};

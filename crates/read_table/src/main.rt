@@ -1,5 +1,7 @@
 // Runs the reader over a message of each kind: as it is, damaged at each place, and cut short at each place. A line for each kind and
 // damage has the refusal's number at the places from 0 on, and 0 where the message is accepted.
+#![tactic(auto)]
+
 ghost use Rattle.std.specs.Prelude.{◌<◌, ◌≤◌};
 
 use rules::Read;
@@ -9,7 +11,7 @@ const FRONT: usize = 7;
 
 const BUFFER: usize = 32;
 
-#[derive(Drop)]
+#[derive(Clone, Copy)]
 enum Damage {
     OneMore,
     Full,

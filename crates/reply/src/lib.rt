@@ -1,4 +1,6 @@
 // A step's blocks, written into a lent slice of words.
+#![tactic(auto)]
+
 ghost use Rattle.std.specs.Prelude.{◌≡◌, [], ◌∷◌, ◌+◌, ◌*◌, ◌≤◌, min, length};
 ghost use Rattle.rules.specs.Desk.{loaded, listed};
 ghost use Rattle.rules.specs.Refusals.{reply_need};
@@ -8,7 +10,7 @@ ghost use Rattle.reply.specs.Written.{wrote, blocks_into, all_written};
 use rules::{Desk, Entry};
 
 // The number of due boards, and the number of words written.
-#[derive(Drop)]
+#[derive(Clone, Copy)]
 pub struct Wrote {
     pub due: u32,
     pub words: u32,
@@ -85,7 +87,7 @@ fn write_due(desk: Desk, at: u32, reply: &mut [u32]) -> Wrote
                     break;
                 }
                 let e = desk.entries[j];
-                if rules::in_window_lem(board, at, e) {
+                if rules::in_window(board, at, e) {
                     write_entry(&mut gathered[end..], e);
                     end += 3;
                     shown += 1;

@@ -8,7 +8,7 @@ use native.Mathlib.Omega.{arith}
 use borrow.Author.Tests.{ltb-false, le-ltb, leb-true, le-leb, not-false}
 use lib.Dec.{eqb, ltb}
 use lib.ListN.{length}
-use Rattle.lists.proofs.Bools.{by, clash, neither}
+use Rattle.lists.proofs.Bools.{by, neither}
 use Rattle.rules.specs.Desk.{limit, needs, loaded, is_open}
 use Rattle.rules.specs.Moments.{reached}
 use Rattle.rules.specs.Refusals.{Rule, judged, Refuses, disorder, InOrder, step_rules}

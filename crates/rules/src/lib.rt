@@ -1,4 +1,6 @@
 // Document 01's values: what a desk has, what a message holds, what a call answers; and the leaf functions on one board.
+#![tactic(auto)]
+
 ghost use Rattle.std.specs.Prelude.{◌≡◌, ◌-◌, min};
 ghost use Rattle.rules.specs.Desk.{names as names_of, need as need_of, within as within_of, board_fits, request_fits, clock_fits};
 ghost use Rattle.rules.specs.Moments.{is_moment, moment, upto, in_window};
@@ -6,7 +8,7 @@ ghost use Rattle.rules.specs.Cells.{cells as cells_of};
 ghost use Rattle.rules.specs.Replies.{number as number_of};
 
 #[repr(C)]
-#[derive(Drop)]
+#[derive(Clone, Copy)]
 pub struct Board {
     pub mask: u32,
     pub window: u32,
@@ -16,7 +18,7 @@ pub struct Board {
 
 // A request on the shared list; its tick is the clock when it was accepted.
 #[repr(C)]
-#[derive(Drop)]
+#[derive(Clone, Copy)]
 pub struct Entry {
     pub id: u32,
     pub score: u32,
@@ -26,7 +28,7 @@ pub struct Entry {
 
 // The phase is 0 while loading and 1 while open.
 #[repr(C)]
-#[derive(Drop)]
+#[derive(Clone, Copy)]
 pub struct Time {
     pub clock: u32,
     pub phase: u32,
@@ -34,7 +36,7 @@ pub struct Time {
 
 // The first `count` boards are loaded; the first `len` entries are on the list.
 #[repr(C)]
-#[derive(Drop)]
+#[derive(Clone, Copy)]
 pub struct Desk {
     pub time: Time,
     pub count: usize,
@@ -45,7 +47,7 @@ pub struct Desk {
 
 // A message's kind, its byte 6, and its numbers at bytes 8, 12 and 16.
 #[repr(C)]
-#[derive(Drop)]
+#[derive(Clone, Copy)]
 pub struct Message {
     pub kind: u32,
     pub byte: u32,
@@ -55,7 +57,7 @@ pub struct Message {
 }
 
 // The refusals of documents 01 and 02, in the order of their numbers.
-#[derive(Drop)]
+#[derive(Clone, Copy)]
 pub enum Refusal {
     Short,
     Mark,
@@ -76,38 +78,38 @@ pub enum Refusal {
 }
 
 // What a call answers: to a board, an open or a request; to a step; to the list's length; to a place of it; to the bytes of a message.
-#[derive(Drop)]
+#[derive(Clone, Copy)]
 pub enum Asked {
     Accepted,
     Refused(Refusal),
 }
 
-#[derive(Drop)]
+#[derive(Clone, Copy)]
 pub enum Stepped {
     Reached { clock: u32, due: u32, words: u32 },
     Refused(Refusal),
 }
 
-#[derive(Drop)]
+#[derive(Clone, Copy)]
 pub enum Measured {
     Length(u32),
     Refused(Refusal),
 }
 
-#[derive(Drop)]
+#[derive(Clone, Copy)]
 pub enum Found {
     Entry(Entry),
     Refused(Refusal),
 }
 
-#[derive(Drop)]
+#[derive(Clone, Copy)]
 pub enum Read {
     Message(Message),
     Refused(Refusal),
 }
 
 // To a message: what its kind's call answers.
-#[derive(Drop)]
+#[derive(Clone, Copy)]
 pub enum Answered {
     Accepted,
     Reached { clock: u32, due: u32, words: u32 },
@@ -115,6 +117,7 @@ pub enum Answered {
 }
 
 // Topics are 0 to 7; a mask of 0 names all eight.
+#[tactic(auto, unfolding(crate::specs::Desk::names))]
 pub fn names(board: Board, topic: u32) -> bool
     ensures { result ≡ names_of board topic }
 {
@@ -138,6 +141,7 @@ fn within(low: u32, high: u32, n: u32) -> bool
 }
 
 // Whether the board's fields are in their ranges.
+#[tactic(auto, unfolding(crate::specs::Desk::board_fits))]
 pub fn board_fits(board: Board) -> bool
     ensures { result ≡ board_fits board }
 {
@@ -154,6 +158,7 @@ pub fn board_fits(board: Board) -> bool
 }
 
 // Whether a request's topic and score are in their ranges.
+#[tactic(auto, unfolding(crate::specs::Desk::request_fits))]
 pub fn request_fits(topic: u32, score: u32) -> bool
     ensures { result ≡ request_fits topic score }
 {
@@ -171,6 +176,7 @@ pub fn clock_fits(clock: u32) -> bool
 }
 
 // The window divided by the slide, rounded up.
+#[tactic(auto, unfolding(crate::specs::Cells::cells, crate::specs::Desk::rounded_up))]
 pub fn cells(board: Board) -> usize
     ensures { result ≡ cells_of board }
 {
@@ -181,6 +187,7 @@ pub fn cells(board: Board) -> usize
     (board.window as usize + (slide - 1)) / slide
 }
 
+#[tactic(auto, using(crate::proofs::MomentLaw::rounded_small), unfolding(crate::specs::Desk::need, crate::specs::Cells::cells))]
 pub fn need(board: Board) -> usize
     ensures { result ≡ need_of board }
 {
@@ -202,6 +209,7 @@ pub fn less(a: usize, b: usize) -> usize
 }
 
 // How many of the board's moments are at most x.
+#[tactic(auto, unfolding(crate::specs::Moments::upto))]
 pub fn moments_upto(board: Board, x: usize) -> usize
     ensures { result ≡ upto board x }
 {
@@ -213,6 +221,7 @@ pub fn moments_upto(board: Board, x: usize) -> usize
 }
 
 // The board's first moment above the clock; past the limit it is none.
+#[tactic(auto, using(crate::proofs::MomentLaw::upto_small, crate::proofs::MomentLaw::next_small), unfolding(crate::specs::Moments::moment))]
 pub fn next_moment(board: Board, clock: u32) -> usize
     ensures { result ≡ moment board (upto board clock) }
 {
@@ -220,6 +229,7 @@ pub fn next_moment(board: Board, clock: u32) -> usize
     (passed + 1) * board.slide as usize
 }
 
+#[tactic(auto, unfolding(crate::specs::Moments::is_moment))]
 pub fn is_moment(board: Board, tick: u32) -> bool
     ensures { result ≡ is_moment board tick }
 {
@@ -237,7 +247,8 @@ pub fn is_moment(board: Board, tick: u32) -> bool
 }
 
 // Whether the entry lies in the board's window at a moment.
-pub fn in_window_lem(board: Board, at: u32, e: Entry) -> bool
+#[tactic(auto, unfolding(crate::specs::Moments::in_window))]
+pub fn in_window(board: Board, at: u32, e: Entry) -> bool
     ensures { result ≡ in_window board at e }
 {
     if names(board, e.topic) {

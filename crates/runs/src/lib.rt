@@ -1,1 +1,3 @@
 // Runs of calls, and the theorems about them; no code.
+#![tactic(auto)]
+

@@ -1,4 +1,6 @@
 // Document 01's text form of messages, read byte by byte: a line may come in pieces of any size. Each line that is whole is written as a message.
+#![tactic(auto)]
+
 ghost use Rattle.std.specs.Prelude.{◌≡◌, true, ◌+◌, ◌^◌, ◌%◌, ◌≤◌, ◌<◌, length, take};
 ghost use Rattle.lists.specs.Views.{all};
 ghost use Rattle.message.specs.Outcomes.{wrote};
@@ -10,7 +12,7 @@ ghost use Rattle.text.specs.Decimals.{is_digit, tenfold};
 use rules::{Asked, Message, Read, Refusal};
 
 // A line that was begun: its finished numbers, how many they are, the one that is being read, whether that has a digit, and whether the form is broken.
-#[derive(Drop)]
+#[derive(Clone, Copy)]
 pub struct Begun {
     pub numbers: [u64; 6],
     pub count: usize,
@@ -21,7 +23,7 @@ pub struct Begun {
 
 // What came of a piece: the line that is left begun, how many messages were written, the place behind them, and whether a line was refused: the one whose
 // number is that count.
-#[derive(Drop)]
+#[derive(Clone, Copy)]
 pub struct Taken {
     pub line: Begun,
     pub messages: usize,
@@ -30,7 +32,7 @@ pub struct Taken {
 }
 
 // What came of a whole text.
-#[derive(Drop)]
+#[derive(Clone, Copy)]
 pub struct Written {
     pub messages: usize,
     pub place: usize,

@@ -1,4 +1,6 @@
 // The walk that keeps the shared list: each board alone marks what it shows, best first, and what has a mark stays.
+#![tactic(auto)]
+
 ghost use Rattle.std.specs.Prelude.{◌≡◌, cond, ◌&&◌, ◌+◌, ◌-◌, ◌≤◌, ◌<◌, ltb, leb, length, take, drop, replicate};
 ghost use Rattle.std.specs.Int.Bits.{bit_and};
 ghost use Rattle.lists.specs.Nested.{empties, on_front, from};
@@ -13,7 +15,7 @@ ghost use Rattle.walk.specs.Edges.{views_from, board_views, Numbered, holding, n
 use rules::{Board, Desk, Entry, Time};
 
 // What stands next in the line and its place on the list, 1,024 for a new entry; where the list goes on, and how many new entries wait then: one or none.
-#[derive(Drop)]
+#[derive(Clone, Copy)]
 struct Met {
     entry: Entry,
     place: u16,

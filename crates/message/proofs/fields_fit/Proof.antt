@@ -1,9 +1,9 @@
--- `message::fields_fit_lem` meets its contract. In each arm the kind is known, and the definition computes to what the arm's call ensures.
+-- `message::fields_fit` meets its contract. In each arm the kind is known, and the definition computes to what the arm's call ensures.
 use borrow.Author.Rules.{rules}
 use borrow.Author.Tests.{ne_eqb}
 use Rattle.rules.specs.Messages.{fields_fit}
-use Rattle.message.proofs.fields_fit_lem.Statement.{statement}
-use Rattle.message.proofs.fields_fit_lem.Tie as tie
+use Rattle.message.proofs.fields_fit.Statement.{statement}
+use Rattle.message.proofs.fields_fit.Tie as tie
 
 board-fits-requires : tie.Need-board-fits-requires
 board-fits-requires c κs = search rules

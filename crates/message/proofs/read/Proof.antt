@@ -114,10 +114,10 @@ fields-fit-requires : tie.Need-fields-fit-requires
 fields-fit-requires c κs = search rules
 
 returns-7 : tie.Need-returns-7
-returns-7 c = sym (zeroed c.before.before.before ∙ rw (← c.before.before.fields.ensures, denied c.before.fields_fit_lem.ensures c.if6.true))
+returns-7 c = sym (zeroed c.before.before.before ∙ rw (← c.before.before.fields.ensures, denied c.before.fields_fit.ensures c.if6.true))
 
 returns-8 : tie.Need-returns-8
-returns-8 c = sym (zeroed c.before.before.before ∙ rw (← c.before.before.fields.ensures, granted c.before.fields_fit_lem.ensures c.if6.false))
+returns-8 c = sym (zeroed c.before.before.before ∙ rw (← c.before.before.fields.ensures, granted c.before.fields_fit.ensures c.if6.false))
 
 pub read_spec : {M : Type 1} → statement M
 read_spec =

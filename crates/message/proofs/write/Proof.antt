@@ -60,7 +60,7 @@ returns-4 c =
     let a = m.before.before.before.args in
     let kind = a.message.kind in
     let positive : kind ≡ 0 → ⊥ = m.match.rest.1 in
-    let fits = denied c.before.fields_fit_lem.ensures c.if3.true in
+    let fits = denied c.before.fields_fit.ensures c.if3.true in
     sym (known a.version a.message a.bytes.now a.at m.before.if1.false (omega arith) (omega arith) ∙ rw fits)
 
 less-requires : tie.Need-less-requires
@@ -72,7 +72,7 @@ passed c =
     let m = c.before.before.before in
     let a = m.before.before.before.args in
     let positive : a.message.kind ≡ 0 → ⊥ = m.match.rest.1 in
-    fitting a.version a.message a.bytes.now a.at m.before.if1.false (omega arith) (omega arith) (granted c.before.fields_fit_lem.ensures c.if3.false)
+    fitting a.version a.message a.bytes.now a.at m.before.if1.false (omega arith) (omega arith) (granted c.before.fields_fit.ensures c.if3.false)
 
 returns-5 : tie.Need-returns-5
 returns-5 c =

@@ -151,7 +151,7 @@ loop2-again c =
     let t = n.before in
     let s = t.before in
     let v = s.loop2.invariant.2 in
-    let is = c.before.in_window_lem.ensures in
+    let is = c.before.in_window.ensures in
     ⊎_elim
     (λ w. (
       omega arith,
