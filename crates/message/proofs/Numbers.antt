@@ -31,6 +31,10 @@ pub one_byte : (bytes : List ℕ) (from : ℕ) → from < length bytes → numbe
 unfolding big_endian
 one_byte bytes from h = one_more bytes from 0 (omega arith) ∙ simp (add-zero, zero-add)
 
+-- a message's kind is its byte 5
+pub kind_byte : (bytes : List ℕ) → 20 ≤ length bytes → number_at bytes 5 1 ≡ get_or bytes 5 0
+kind_byte bytes h = one_byte bytes 5 (omega arith)
+
 -- A number in `size` bytes is below 256 ^ size, and four bytes fit 32 bits.
 pub below_more : {n byte : ℕ} (size : ℕ) → n < 256 ^ size → byte < 256 → n * 256 + byte < 256 ^ (size + 1)
 below_more size h k = rw (add-one, pow-suc) (digits_lt h k)
