@@ -78,8 +78,7 @@ fn take_from(
 }
 
 // Take a message on a lent desk, which is altered where it stands: the call that its kind names.
-#[unsafe(no_mangle)]
-pub extern "C" fn desk_take(
+pub fn desk_take(
     desk: &mut Desk,
     kind: u32,
     byte: u32,
