@@ -24,7 +24,7 @@ pub fn mark() -> [u8; 3]
 }
 
 // The message at the front of the bytes, or the first refusal of 1 to 6 that is given.
-#[tactic(auto, using(crate::proofs::Numbers::kind_byte, std::proofs::lemmas::Bool::Decides::nat_tests), unfolding(rules::specs::Calls::reader_call))]
+#[tactic(auto, using(crate::proofs::Numbers::kind_byte), unfolding(rules::specs::Calls::reader_call))]
 pub fn read(bytes: &[u8]) -> Read
     ensures { read_of result ≡ reader_call bytes.now }
 {
@@ -88,6 +88,7 @@ fn number(bytes: &[u8], from: usize, size: usize) -> u32
     value
 }
 
+#[tactic(auto, using(crate::proofs::Parts::message_own))]
 fn fields(bytes: &[u8]) -> Message
     requires { 20 ≤ length bytes.now }
     ensures { result ≡ message bytes.now }
@@ -102,7 +103,7 @@ fn fields(bytes: &[u8]) -> Message
 }
 
 // The fields that the kind has, and 0 for the others. Only kinds 1 to 4 are asked about, so the last arm is the clock's.
-#[tactic(auto, using(std::proofs::lemmas::Bool::Decides::nat_tests), unfolding(rules::specs::Messages::own, rules::specs::Messages::layout))]
+#[tactic(auto, unfolding(rules::specs::Messages::own, rules::specs::Messages::layout))]
 fn own(fields: Message) -> Message
     ensures { result ≡ own fields }
 {
@@ -134,7 +135,7 @@ fn own(fields: Message) -> Message
 }
 
 // All bytes from a place on, up to an end, are zero.
-#[tactic(auto, using(crate::proofs::Loops::places_step, std::proofs::lemmas::Bool::Decides::nat_tests))]
+#[tactic(auto, using(crate::proofs::Loops::places_step))]
 fn zero(bytes: &[u8], from: usize, end: usize) -> bool
     requires { (from ≤ end) × (end ≤ length bytes.now) }
     ensures { result ≡ all (is_zero bytes.now) (places from (end - from)) }
@@ -148,7 +149,7 @@ fn zero(bytes: &[u8], from: usize, end: usize) -> bool
 }
 
 // The bytes that must be zero are. The last arm is the clock's, as above.
-#[tactic(auto, using(lists::proofs::Best::all_append, std::proofs::lemmas::Bool::Decides::nat_tests), unfolding(rules::specs::Messages::zeros_stand, rules::specs::Messages::zero_places, rules::specs::Messages::layout))]
+#[tactic(auto, using(lists::proofs::Best::all_append), unfolding(rules::specs::Messages::zeros_stand, rules::specs::Messages::zero_places, rules::specs::Messages::layout))]
 fn zeros_stand(bytes: &[u8], kind: u8) -> bool
     requires { 20 ≤ length bytes.now }
     ensures { result ≡ zeros_stand bytes.now kind }
@@ -172,7 +173,7 @@ fn zeros_stand(bytes: &[u8], kind: u8) -> bool
 }
 
 // The fields of a message are in their ranges. The last arm is the clock's, as above.
-#[tactic(auto, using(std::proofs::lemmas::Bool::Decides::nat_tests), unfolding(rules::specs::Messages::fields_fit))]
+#[tactic(auto, unfolding(rules::specs::Messages::fields_fit))]
 fn fields_fit(fields: Message) -> bool
     ensures { result ≡ fields_fit fields }
 {
@@ -191,7 +192,7 @@ fn fields_fit(fields: Message) -> bool
 }
 
 // A message's 20 bytes into the slice from a place on, or the first refusal of 3, 4, 6 and 14 that is given: then no byte is touched.
-#[tactic(auto, using(std::proofs::lemmas::Bool::Decides::nat_tests), unfolding(rules::specs::Calls::writer_call))]
+#[tactic(auto, unfolding(rules::specs::Calls::writer_call))]
 pub fn write(version: u32, message: Message, bytes: &mut [u8], at: usize) -> Asked
     ensures { wrote result bytes.new ≡ writer_call version message bytes.old at }
 {

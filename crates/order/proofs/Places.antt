@@ -30,6 +30,11 @@ module _ (clock score : ℕ) (e : Entry) (es : List Entry) where
   unfolding standing falls_from
   climbs h = rw (lt-leb e.score score h, and-false)
 
+-- Where no entry is left, all stand.
+pub none_left : (clock score : ℕ) → standing clock score [] ≡ true
+unfolding standing falls_from
+none_left clock score = refl
+
 -- Before the first entry stands the limit: its score fits.
 pub standing_limit : (clock : ℕ) (es : List Entry) → standing clock limit es ≡ (all (entry_fits clock) es && falls es)
 unfolding standing falls_from falls entry_fits request_fits
@@ -128,6 +133,9 @@ module _ (d : Desk) where
       by (disorder d)
       (λ e. e)
       (λ e. let o = in_order d e in clash (standing_limit d.time.clock (listed d) ∙ rw (o.entries, o.falling)) s)
+
+-- What `in_disorder` cites: a turn of its loop, what stands where the loop is reached, and what each end of it says.
+pub ruleset in_disorder = (stands, misfits, climbs, none_left, heads_in, standing_order, headless_disorder, fallen_disorder)
 
 -- Needs against what is left of 1,024: one more is taken off, or is too much.
 pub takes : (n m left : ℕ) → n ≤ left → leb (n + m) left ≡ leb m (left - n)

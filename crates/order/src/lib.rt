@@ -26,6 +26,7 @@ fn boards_fit(boards: [Board; 32], count: usize) -> bool
     true
 }
 
+#[tactic(auto, unfolding(rules::specs::Desk::needs))]
 fn sum_of_needs(boards: [Board; 32], count: usize) -> usize
     requires { (count ≤ 32) × (all board_fits (take count boards) ≡ true) }
     ensures { result ≡ needs (take count boards) }
@@ -41,6 +42,7 @@ fn sum_of_needs(boards: [Board; 32], count: usize) -> usize
 }
 
 // Whether the desk has at most 32 boards, and the sum of needs stays at most 1,024 with this board's.
+#[tactic(auto, using(crate::proofs::Places::takes, crate::proofs::Places::too_much), unfolding(rules::specs::Desk::needs))]
 pub fn fits_beside(desk: Desk, board: Board) -> bool
     ensures { result ≡ (leb desk.count 32 && leb (need_of board + needs (loaded desk)) 1024) }
 {
@@ -68,6 +70,7 @@ pub fn fits_beside(desk: Desk, board: Board) -> bool
 }
 
 // Whether an entry's fields are in range, and its tick not above the clock.
+#[tactic(auto, unfolding(rules::specs::Refusals::entry_fits))]
 fn entry_fits(clock: u32, e: Entry) -> bool
     ensures { result ≡ entry_fits clock e }
 {
@@ -78,6 +81,7 @@ fn entry_fits(clock: u32, e: Entry) -> bool
 }
 
 // Whether all that document 01 asks of a desk before its entries is in order.
+#[tactic(auto, using(std::proofs::lemmas::Bool::Decides::nat_tests), unfolding(crate::specs::Standing::heads))]
 fn heads_stand(time: Time, boards: [Board; 32], count: usize, len: usize) -> bool
     ensures { result ≡ heads time (take count boards) count len }
 {
@@ -107,6 +111,7 @@ fn heads_stand(time: Time, boards: [Board; 32], count: usize, len: usize) -> boo
 }
 
 // The entries stand where all fit and none has a score above the one before it; the limit is before the first.
+#[tactic(auto, using(crate::proofs::Places::in_disorder, std::proofs::lemmas::Grind::common_steps))]
 pub fn in_disorder(desk: Desk) -> bool
     ensures { result ≡ disorder desk }
 {

@@ -2,7 +2,7 @@
 use mathlib.Core.Path.{◌≡◌, refl, sym, ap, subst, ◌∙◌}
 use mathlib.Core.Logic.{◌⊎◌, inl, inr}
 use mathlib.Core.List.{List, [], ◌∷◌, ◌++◌, map, map-append, append-nil}
-use mathlib.Core.Bool.{true, or-true}
+use mathlib.Core.Bool.{or-true}
 use Prim.Native.Nat.{ℕ, zero, suc, ◌+◌, ◌-◌, ◌*◌, ◌/◌, ◌%◌, ◌^◌, ◌≤◌, ◌<◌}
 use native.Mathlib.Omega.{arith}
 use native.Mathlib.Numerals.{add-one}
@@ -13,7 +13,7 @@ use lib.Dec.{eqb, ltb, leb}
 use lib.ListN.{length, take, drop, get_or, set, replicate, length-map, length-set, take-append-drop, replicate-append-replicate}
 use lib.Seq.{length-take-le, take-take, take-suc-set, drop-set-lt, append_snoc}
 use Rattle.lists.specs.Views.{along}
-use Rattle.lists.specs.Nested.{view, nested}
+use Rattle.lists.specs.Nested.{nested}
 use Rattle.lists.specs.Marks.{noted}
 use Rattle.lists.proofs.Bools.{by}
 use Rattle.lists.proofs.Marks.{noted_along}
