@@ -14,7 +14,7 @@ use Rattle.lists.specs.Views.{all}
 use Rattle.lists.proofs.Bools.{by, clash}
 use Rattle.rules.specs.Messages.{layout}
 use Rattle.text.specs.Decimals.{is_digit, is_decimal, some, value, behind, tenfold}
-use Rattle.text.specs.Lines.{split, field_parts, numbers, formed, read_numbers, read_line}
+use Rattle.text.specs.Lines.{split, field_parts, formed, read_numbers, read_line}
 use Rattle.text.specs.Machine.{fresh, next, digit, ends, breaks, says, capped}
 use Rattle.text.specs.declared.Begun.{Begun}
 use Rattle.text.proofs.Splitting.{pieces}
