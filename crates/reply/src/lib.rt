@@ -65,7 +65,7 @@ fn write_block(number: u32, shown: u32, words: &[u32], reply: &mut [u32]) -> usi
 
 // Each due board's block is written into what remains of the reply. The words of its entries are gathered first, three for each:
 // a writer that was handed the list instead would be handed a copy of it for each due board.
-#[tactic(auto, using(crate::proofs::Gathering::shows, crate::proofs::Gathering::passes, crate::proofs::Gathering::blocked, crate::proofs::Filling::more, crate::proofs::Filling::full, crate::proofs::Blocks::blocks_length, std::proofs::lemmas::Grind::common_steps), unfolding(rules::specs::Refusals::reply_need, rules::specs::Calls::blocks))]
+#[tactic(auto, using(crate::proofs::Filling::full, std::proofs::lemmas::Grind::common_steps), unfolding(rules::specs::Calls::blocks))]
 fn write_due(desk: Desk, at: u32, reply: &mut [u32]) -> Wrote
     requires { (desk.count ≤ 32) × (desk.len ≤ 1024) × (reply_need (loaded desk) ≤ length reply.old) }
     ensures { (result ≡ all_written desk at) × (reply.new ≡ written (blocks 0 (loaded desk) at (listed desk)) reply.old) }

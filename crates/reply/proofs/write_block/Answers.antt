@@ -1,4 +1,4 @@
--- One word more is copied.
+-- One word more is copied. The slice when the copying begins keeps its length.
 use Rattle.std.proofs.Common.{◌≡◌, length, arith, add-one, length-set}
 use lib.ListN.{set}
 use lib.Seq.{paste-suc}
