@@ -1,3 +1,2 @@
 // Runs of calls, and the theorems about them; no code.
 #![tactic(auto)]
-
