@@ -113,7 +113,7 @@ pub fn take(line: Begun, piece: &[u8], bytes: &mut [u8], at: usize) -> Taken
 }
 
 // The end of a text: a line that was begun lacks its line feed.
-#[tactic(auto, using(std::proofs::lemmas::Bool::Decides::nat_tests), unfolding(crate::specs::Machine::end_call, crate::specs::Machine::begun))]
+#[tactic(auto, unfolding(crate::specs::Machine::end_call, crate::specs::Machine::begun))]
 pub fn end(line: Begun) -> Asked
     ensures { asked result ≡ end_call line }
 {
@@ -130,7 +130,7 @@ pub fn end(line: Begun) -> Asked
 }
 
 // One byte more, which is no line feed.
-#[tactic(auto, using(std::proofs::lemmas::Bool::Decides::nat_tests), unfolding(crate::specs::Machine::next))]
+#[tactic(auto, unfolding(crate::specs::Machine::next))]
 fn next(line: Begun, byte: u8) -> Begun
     ensures { result ≡ next line byte }
 {
@@ -195,7 +195,7 @@ fn line_end(line: Begun, bytes: &mut [u8], at: usize) -> Asked
 }
 
 // The message in the numbers of a line. A line that was handed in may have any count.
-#[tactic(auto, using(crate::proofs::Numbers::same_taken, std::proofs::lemmas::Bool::Decides::nat_tests), unfolding(crate::specs::Lines::read_numbers))]
+#[tactic(auto, unfolding(crate::specs::Lines::read_numbers))]
 fn said(line: Begun) -> Read
     ensures { read_of result ≡ says line }
 {
@@ -214,7 +214,7 @@ fn said(line: Begun) -> Read
 }
 
 // Version 1, a known kind, and as many numbers behind it as the kind has fields.
-#[tactic(auto, using(crate::proofs::Numbers::too_few, crate::proofs::Numbers::counted, std::proofs::lemmas::Bool::Decides::nat_tests), unfolding(crate::specs::Lines::field_parts, rules::specs::Messages::layout))]
+#[tactic(auto, using(crate::proofs::Numbers::too_few, crate::proofs::Numbers::counted), unfolding(crate::specs::Lines::field_parts, rules::specs::Messages::layout))]
 fn formed(numbers: &[u64; 6], count: usize) -> bool
     requires { (count ≤ 6) × (count ≤ length numbers.now) }
     ensures { result ≡ formed (take count numbers.now) }
@@ -248,7 +248,7 @@ fn small(numbers: &[u64; 6], count: usize) -> bool
 }
 
 // The fields stand in byte order behind the kind. The last arm is the clock's.
-#[tactic(auto, using(crate::proofs::Numbers::made_of, std::proofs::lemmas::Bool::Decides::nat_tests))]
+#[tactic(auto, using(crate::proofs::Numbers::made_of))]
 fn message_of(numbers: &[u64; 6], count: usize) -> Message
     requires { Formed count numbers.now }
     ensures { result ≡ of_numbers (take count numbers.now) }
