@@ -21,46 +21,52 @@ struct Progress {
     left: usize,
 }
 
-fn main() {
+fn main(rt: HostRuntime) {
     let mut input = io::large_buffer();
     let mut output = io::large_buffer();
     let mut reply = [0u32; REPLY];
-    run(&mut input, &mut reply, &mut output);
+    run(&rt, &mut rt.stdin(), &mut input, &mut reply, &mut output);
 }
 
-// To the end of the input. The reads are counted down from a number that no run uses up.
-fn run(input: &mut [u8], reply: &mut [u32], output: &mut [u8])
+// To the end of the input. The reads are counted up to a number that no run reaches.
+fn run(
+    rt: &(impl Print + Eprint),
+    stdin: &mut impl std::io::Read,
+    input: &mut [u8],
+    reply: &mut [u32],
+    output: &mut [u8],
+)
     requires { (20 ≤ length input.old) × Waiting 0 output.old }
 {
     let mut desk = desk::fresh();
     let mut place: u64 = 0;
     let mut left: usize = 0;
-    let mut reads = u64::MAX;
-    while reads > 0 {
-        let end = read_on(input, left);
+    for _ in 0..u64::MAX {
+        let end = read_on(rt, stdin, input, left);
         if end == left {
-            return finish(desk, place, &input[..left], output);
+            return finish(rt, desk, place, &input[..left], output);
         }
-        let after = messages(desk, place, &input[..end], reply, output);
+        let after = messages(rt, desk, place, &input[..end], reply, output);
         desk = after.desk;
         place = after.place;
         left = after.left;
         keep(input, end, left);
-        reads -= 1;
     }
 }
 
 // One read behind the bytes that are left, and where the bytes end then: where they ended before if no more came.
-fn read_on(input: &mut [u8], left: usize) -> usize
+fn read_on(rt: &impl Eprint, stdin: &mut impl std::io::Read, input: &mut [u8], left: usize) -> usize
     requires { left < length input.old }
     ensures { (left ≤ result) × (result ≤ length input.new) }
 {
     let space = &mut input[left..];
-    let got = libc::read(0, space);
-    if got < 0 {
-        io::write_all(2, b"console: standard input cannot be read\n");
+    match stdin.read(space) {
+        Ok(got) => left + got,
+        Err(_) => {
+            let _ = eprintln!(rt; "console: standard input cannot be read");
+            left
+        }
     }
-    left + io::count(got, space)
 }
 
 // The last bytes before the end go to the front.
@@ -73,7 +79,14 @@ fn keep(input: &mut [u8], end: usize, left: usize)
 }
 
 // Takes every whole message, and writes out what there is to say. A clock message is taken again until its target is reached.
-fn messages(desk: Desk, place: u64, input: &[u8], reply: &mut [u32], output: &mut [u8]) -> Progress
+fn messages(
+    rt: &(impl Print + Eprint),
+    desk: Desk,
+    place: u64,
+    input: &[u8],
+    reply: &mut [u32],
+    output: &mut [u8],
+) -> Progress
     requires { Waiting 0 output.old }
     ensures { (result.left < 20) × (result.left ≤ length input.now) }
 {
@@ -88,13 +101,13 @@ fn messages(desk: Desk, place: u64, input: &[u8], reply: &mut [u32], output: &mu
                 let taken = desk::take(desk, m, reply);
                 desk = taken.desk;
                 let answer = taken.answer;
-                at = put_answer(answer, place, reply, output, at);
+                at = put_answer(rt, answer, place, reply, output, at);
                 if short_of(answer, m.first) {
                     continue;
                 }
             }
             Read::Refused(refusal) => {
-                at = put_refused(place, refusal, output, at);
+                at = put_refused(rt, place, refusal, output, at);
             }
         }
         let next = message::rest(rest);
@@ -102,7 +115,7 @@ fn messages(desk: Desk, place: u64, input: &[u8], reply: &mut [u32], output: &mu
         // No input has 2 to the 64 messages.
         place = std::num::wrapping_add_u64(place, 1);
     }
-    write_out(output, at);
+    write_out(rt, output, at);
     Progress {
         desk,
         place,
@@ -126,16 +139,16 @@ fn short_of(answer: Answered, target: u32) -> bool
 }
 
 // The end of the run: a last piece that is no whole message, and the length of the list.
-fn finish(desk: Desk, place: u64, piece: &[u8], output: &mut [u8])
+fn finish(rt: &(impl Print + Eprint), desk: Desk, place: u64, piece: &[u8], output: &mut [u8])
     requires { (length piece.now < 20) × Waiting 0 output.old }
 {
-    let at = put_last(place, piece, output);
-    let end = put_held(desk::length(desk), place, output, at);
-    write_out(output, end);
+    let at = put_last(rt, place, piece, output);
+    let end = put_held(rt, desk::length(desk), place, output, at);
+    write_out(rt, output, end);
 }
 
 // The reader refuses a last piece of 1 to 19 bytes.
-fn put_last(place: u64, piece: &[u8], output: &mut [u8]) -> usize
+fn put_last(rt: &(impl Print + Eprint), place: u64, piece: &[u8], output: &mut [u8]) -> usize
     requires { (length piece.now < 20) × Waiting 0 output.old }
     ensures { Waiting result output.new }
 {
@@ -144,36 +157,55 @@ fn put_last(place: u64, piece: &[u8], output: &mut [u8]) -> usize
     }
     match message::read(piece) {
         Read::Message(_) => 0,
-        Read::Refused(refusal) => put_refused(place, refusal, output, 0),
+        Read::Refused(refusal) => put_refused(rt, place, refusal, output, 0),
     }
 }
 
 // No run from a fresh desk meets a refusal here.
-fn put_held(held: Measured, place: u64, output: &mut [u8], at: usize) -> usize
+fn put_held(
+    rt: &(impl Print + Eprint),
+    held: Measured,
+    place: u64,
+    output: &mut [u8],
+    at: usize,
+) -> usize
     requires { Waiting at output.old }
     ensures { Waiting result output.new }
 {
     match held {
         Measured::Length(n) => {
-            let mut at = room(output, at);
+            let mut at = room(rt, output, at);
             at = put(b"held ", output, at);
             decimal(n as u64, b'\n', output, at)
         }
-        Measured::Refused(refusal) => put_refused(place, refusal, output, at),
+        Measured::Refused(refusal) => put_refused(rt, place, refusal, output, at),
     }
 }
 
-fn put_refused(place: u64, refusal: Refusal, output: &mut [u8], at: usize) -> usize
+fn put_refused(
+    rt: &(impl Print + Eprint),
+    place: u64,
+    refusal: Refusal,
+    output: &mut [u8],
+    at: usize,
+) -> usize
     requires { Waiting at output.old }
     ensures { Waiting result output.new }
 {
-    let mut at = room(output, at);
+    let mut at = room(rt, output, at);
     at = put(b"refused ", output, at);
     at = decimal(place, b' ', output, at);
     decimal(rules::number(refusal) as u64, b'\n', output, at)
 }
 
-fn put_answer(answer: Answered, place: u64, reply: &[u32], output: &mut [u8], at: usize) -> usize
+fn put_answer(
+    rt: &(impl Print + Eprint),
+    answer: Answered,
+    place: u64,
+    reply: &[u32],
+    output: &mut [u8],
+    at: usize,
+) -> usize
     requires { Waiting at output.old × Shown answer reply.now }
     ensures { Waiting result output.new }
 {
@@ -182,14 +214,21 @@ fn put_answer(answer: Answered, place: u64, reply: &[u32], output: &mut [u8], at
             clock,
             due,
             words: _,
-        } => put_blocks(clock, due, reply, output, at),
+        } => put_blocks(rt, clock, due, reply, output, at),
         Answered::Accepted => at,
-        Answered::Refused(refusal) => put_refused(place, refusal, output, at),
+        Answered::Refused(refusal) => put_refused(rt, place, refusal, output, at),
     }
 }
 
 // The blocks of the due boards, one behind the other.
-fn put_blocks(moment: u32, due: u32, reply: &[u32], output: &mut [u8], at: usize) -> usize
+fn put_blocks(
+    rt: &(impl Print + Eprint),
+    moment: u32,
+    due: u32,
+    reply: &[u32],
+    output: &mut [u8],
+    at: usize,
+) -> usize
     requires { Waiting at output.old × Blocks due reply.now }
     ensures { Waiting result output.new }
 {
@@ -200,32 +239,39 @@ fn put_blocks(moment: u32, due: u32, reply: &[u32], output: &mut [u8], at: usize
         let board = rest[0];
         let count = rest[1];
         let end = 2 + 3 * count as usize;
-        at = put_board(moment, board, count, output, at);
-        at = put_entries(&rest[2..end], output, at);
+        at = put_board(rt, moment, board, count, output, at);
+        at = put_entries(rt, &rest[2..end], output, at);
         rest = &rest[end..];
         left -= 1;
     }
     at
 }
 
-fn put_board(moment: u32, board: u32, count: u32, output: &mut [u8], at: usize) -> usize
+fn put_board(
+    rt: &(impl Print + Eprint),
+    moment: u32,
+    board: u32,
+    count: u32,
+    output: &mut [u8],
+    at: usize,
+) -> usize
     requires { Waiting at output.old }
     ensures { Waiting result output.new }
 {
-    let mut at = room(output, at);
+    let mut at = room(rt, output, at);
     at = put(b"answer ", output, at);
     put_three(moment, board, count, output, at)
 }
 
 // A line of id, score and tick for each three words.
-fn put_entries(words: &[u32], output: &mut [u8], at: usize) -> usize
+fn put_entries(rt: &(impl Print + Eprint), words: &[u32], output: &mut [u8], at: usize) -> usize
     requires { Waiting at output.old }
     ensures { Waiting result output.new }
 {
     let mut rest = words;
     let mut at = at;
     while 3 <= rest.len() {
-        at = room(output, at);
+        at = room(rt, output, at);
         at = put_three(rest[0], rest[1], rest[2], output, at);
         rest = &rest[3..];
     }
@@ -264,22 +310,22 @@ fn put(word: &[u8], output: &mut [u8], at: usize) -> usize
 }
 
 // Where the next line goes. What waits is written out first where the line might not fit behind it.
-fn room(output: &[u8], at: usize) -> usize
+fn room(rt: &(impl Print + Eprint), output: &[u8], at: usize) -> usize
     requires { Waiting at output.now }
     ensures { result + 71 ≤ length output.now }
 {
     if output.len() - at < LINE {
-        write_out(output, at);
+        write_out(rt, output, at);
         return 0;
     }
     at
 }
 
-fn write_out(output: &[u8], at: usize)
+fn write_out(rt: &(impl Print + Eprint), output: &[u8], at: usize)
     requires { at ≤ length output.now }
 {
-    if io::write_all(1, &output[..at]) {
+    if rt.write_all(&output[..at]).is_ok() {
         return;
     }
-    io::write_all(2, b"console: standard output cannot be written\n");
+    let _ = eprintln!(rt; "console: standard output cannot be written");
 }

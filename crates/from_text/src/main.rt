@@ -6,6 +6,7 @@ ghost use Rattle.rules.specs.Calls.Reply.{refused};
 ghost use Rattle.rules.specs.Replies.{number, asked};
 
 use rules::{Asked, Refusal};
+use std::io::Read;
 use text::Begun;
 
 // A byte ends at most one line, and a line gives at most 20 bytes. So a piece of the input always has room for its messages, and 14 never shows.
@@ -21,45 +22,47 @@ struct Progress {
     more: bool,
 }
 
-fn main() {
+fn main(rt: HostRuntime) {
     let mut input = [0u8; PIECE];
     let mut output = [0u8; ROOM];
-    run(&mut input, &mut output);
+    run(&rt, &mut rt.stdin(), &mut input, &mut output);
 }
 
-// To the end of the input. The reads are counted down from a number that no run uses up.
-fn run(input: &mut [u8], output: &mut [u8])
+// To the end of the input. The reads are counted up to a number that no run reaches.
+fn run(rt: &(impl Print + Eprint), stdin: &mut impl Read, input: &mut [u8], output: &mut [u8])
     requires { 20 * length input.old ≤ length output.old }
 {
     let mut line = text::fresh();
     let mut place: u64 = 0;
-    let mut reads = u64::MAX;
-    while reads > 0 {
-        let got = libc::read(0, input);
-        if got < 0 {
-            return unreadable();
-        }
-        let end = io::count(got, input);
+    for _ in 0..u64::MAX {
+        let Ok(end) = stdin.read(input) else {
+            return unreadable(rt);
+        };
         if end == 0 {
-            return finish(line, place);
+            return finish(rt, line, place);
         }
-        let after = take(line, place, &input[..end], output);
+        let after = take(rt, line, place, &input[..end], output);
         if !after.more {
             return;
         }
         let next = after.line;
         line = next;
         place = after.place;
-        reads -= 1;
     }
 }
 
-fn unreadable() {
-    io::write_all(2, b"from_text: standard input cannot be read\n");
+fn unreadable(rt: &impl Eprint) {
+    let _ = eprintln!(rt; "from_text: standard input cannot be read");
 }
 
 // Writes out the messages of a piece; then says which line is refused, if one is.
-fn take(line: Begun, place: u64, piece: &[u8], output: &mut [u8]) -> Progress
+fn take(
+    rt: &(impl Print + Eprint),
+    line: Begun,
+    place: u64,
+    piece: &[u8],
+    output: &mut [u8],
+) -> Progress
     requires { 20 * length piece.now ≤ length output.old }
 {
     let taken = text::take(line, piece, output, 0);
@@ -68,14 +71,14 @@ fn take(line: Begun, place: u64, piece: &[u8], output: &mut [u8]) -> Progress
     let answer = taken.answer;
     // No input has 2 to the 64 lines.
     let place = std::num::wrapping_add_u64(place, taken.messages as u64);
-    if io::write_all(1, &output[..end]) {
+    if rt.write_all(&output[..end]).is_ok() {
         return Progress {
             line: rest,
             place,
-            more: goes_on(answer, place),
+            more: goes_on(rt, answer, place),
         };
     }
-    io::write_all(2, b"from_text: standard output cannot be written\n");
+    let _ = eprintln!(rt; "from_text: standard output cannot be written");
     Progress {
         line: rest,
         place,
@@ -84,29 +87,26 @@ fn take(line: Begun, place: u64, piece: &[u8], output: &mut [u8]) -> Progress
 }
 
 // Whether no line was refused; if one was, says which.
-fn goes_on(answer: Asked, place: u64) -> bool
+fn goes_on(rt: &impl Eprint, answer: Asked, place: u64) -> bool
     requires { asked answer ≢ refused 14 }
 {
     match answer {
         Asked::Accepted => true,
         Asked::Refused(refusal) => {
-            refuse(place, refusal);
+            refuse(rt, place, refusal);
             false
         }
     }
 }
 
 // The end of the input: a line that was begun is refused.
-fn finish(line: Begun, place: u64) {
-    goes_on(text::end(line), place);
+fn finish(rt: &impl Eprint, line: Begun, place: u64) {
+    goes_on(rt, text::end(line), place);
 }
 
-fn refuse(place: u64, refusal: Refusal)
+fn refuse(rt: &impl Eprint, place: u64, refusal: Refusal)
     requires { number refusal ≢ 14 }
 {
-    io::write_all(2, b"refused ");
-    io::print_decimal(2, place);
-    io::write_all(2, b" ");
-    io::print_decimal(2, rules::number(refusal) as u64);
-    io::write_all(2, b"\n");
+    let number = rules::number(refusal);
+    let _ = eprintln!(rt; "refused {place} {number}");
 }

@@ -20,69 +20,73 @@ enum Damage {
     CutShort,
 }
 
-fn main() {
+fn main(rt: HostRuntime) {
     table(
+        &rt,
         b"board",
         b"<front>DTR\x00\x01\x01\x01\x00\x00\x01\x51\x80\x00\x00\x00\x01\x00\x00\x01\x00<end>",
     );
     table(
+        &rt,
         b"request",
         b"<front>DTR\x00\x01\x02\x07\x00\xff\xff\xff\xff\x3b\x9a\xca\x00\x00\x00\x00\x00<end>",
     );
     table(
+        &rt,
         b"open",
         b"<front>DTR\x00\x01\x03\x00\x00\x00\x00\x00\x00\x00\x00\x00\x00\x00\x00\x00\x00<end>",
     );
     table(
+        &rt,
         b"clock",
         b"<front>DTR\x00\x01\x04\x00\x00\x3b\x9a\xca\x00\x00\x00\x00\x00\x00\x00\x00\x00<end>",
     );
 }
 
-fn table(name: &[u8], buffer: &[u8; 32]) {
-    whole(name, buffer);
-    row(name, b" one-more", buffer, Damage::OneMore);
-    row(name, b" 255", buffer, Damage::Full);
-    row(name, b" zero", buffer, Damage::Zero);
-    row(name, b" 255-onward", buffer, Damage::FullOnward);
-    row(name, b" length", buffer, Damage::CutShort);
+fn table(rt: &impl Print, name: &[u8], buffer: &[u8; 32]) {
+    whole(rt, name, buffer);
+    row(rt, name, b" one-more", buffer, Damage::OneMore);
+    row(rt, name, b" 255", buffer, Damage::Full);
+    row(rt, name, b" zero", buffer, Damage::Zero);
+    row(rt, name, b" 255-onward", buffer, Damage::FullOnward);
+    row(rt, name, b" length", buffer, Damage::CutShort);
 }
 
 // The fields of the message as it is, and the rest.
-fn whole(name: &[u8], buffer: &[u8; 32]) {
-    io::write_all(1, name);
-    io::write_all(1, b" whole");
+fn whole(rt: &impl Print, name: &[u8], buffer: &[u8; 32]) {
+    let _ = rt.write_all(name);
+    let _ = rt.write_all(b" whole");
     let all = &buffer[..];
     let bytes = &all[FRONT..];
     match message::read(bytes) {
         Read::Message(m) => {
-            put(m.kind);
-            put(m.byte);
-            put(m.first);
-            put(m.second);
-            put(m.third);
+            put(rt, m.kind);
+            put(rt, m.byte);
+            put(rt, m.first);
+            put(rt, m.second);
+            put(rt, m.third);
         }
-        Read::Refused(refusal) => put(rules::number(refusal)),
+        Read::Refused(refusal) => put(rt, rules::number(refusal)),
     }
-    io::write_all(1, b" rest ");
-    io::write_all(1, message::rest(bytes));
-    io::write_all(1, b"\n");
+    let _ = rt.write_all(b" rest ");
+    let _ = rt.write_all(message::rest(bytes));
+    let _ = rt.write_all(b"\n");
 }
 
-fn row(name: &[u8], label: &[u8], buffer: &[u8; 32], damage: Damage) {
-    io::write_all(1, name);
-    io::write_all(1, label);
+fn row(rt: &impl Print, name: &[u8], label: &[u8], buffer: &[u8; 32], damage: Damage) {
+    let _ = rt.write_all(name);
+    let _ = rt.write_all(label);
     for place in 0..message::SIZE {
-        answer(buffer, FRONT + place, damage);
+        answer(rt, buffer, FRONT + place, damage);
     }
-    line_end();
+    line_end(rt);
 }
 
-fn line_end() {
-    io::write_all(1, b"\n");
+fn line_end(rt: &impl Print) {
+    let _ = rt.write_all(b"\n");
 }
 
-fn answer(buffer: &[u8; 32], at: usize, damage: Damage)
+fn answer(rt: &impl Print, buffer: &[u8; 32], at: usize, damage: Damage)
     requires { (7 ≤ at) × (at < 27) }
 {
     let mut damaged = *buffer;
@@ -91,9 +95,9 @@ fn answer(buffer: &[u8; 32], at: usize, damage: Damage)
         Damage::Full => damaged[at] = 255,
         Damage::Zero => damaged[at] = 0,
         Damage::FullOnward => fill(&mut damaged, at),
-        Damage::CutShort => return judge(buffer, at),
+        Damage::CutShort => return judge(rt, buffer, at),
     }
-    judge(&damaged, BUFFER);
+    judge(rt, &damaged, BUFFER);
 }
 
 // Every byte of the message from a place on becomes 255.
@@ -106,17 +110,16 @@ fn fill(buffer: &mut [u8; 32], from: usize)
 }
 
 // What the reader says of the buffer's part up to an end.
-fn judge(buffer: &[u8; 32], end: usize)
+fn judge(rt: &impl Print, buffer: &[u8; 32], end: usize)
     requires { (7 ≤ end) × (end ≤ 32) }
 {
     let all = &buffer[..];
     match message::read(&all[FRONT..end]) {
-        Read::Message(_) => put(0),
-        Read::Refused(refusal) => put(rules::number(refusal)),
+        Read::Message(_) => put(rt, 0),
+        Read::Refused(refusal) => put(rt, rules::number(refusal)),
     }
 }
 
-fn put(n: u32) {
-    io::write_all(1, b" ");
-    io::print_decimal(1, n as u64);
+fn put(rt: &impl Print, n: u32) {
+    let _ = print!(rt; " {n}");
 }
