@@ -1,5 +1,5 @@
--- Reading what was written returns the fields (`read-written`); writing what was read returns the same bytes (`written_read`, `accepted-bytes`). What was read has
--- the fields of its kind alone (`read-own`), and its bytes are determined by it (`same-message`).
+-- Reading what was written returns the fields (`read_written`); writing what was read returns the same bytes (`written_read`, `accepted_bytes`). What was read has
+-- the fields of its kind alone (`read_own`), and its bytes are determined by it (`same_message`).
 use mathlib.Core.Path.{◌≡◌, sym, ap, ◌∙◌}
 use mathlib.Core.List.{List, ◌++◌}
 use Prim.Native.Nat.{ℕ, ◌+◌, ◌≤◌}

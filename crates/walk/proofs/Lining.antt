@@ -123,13 +123,13 @@ pub record Next (stood : List Entry) (len : ℕ) (new : Entry) (waiting at : ℕ
   pub step : m.at ≤ at + 1
   pub one : suc (len + m.waiting - m.at) ≡ len + waiting - at
 
-module _ (stood : List Entry) (len at : ℕ) (new old : Entry) (short : len ≤ 1024) (k : len ≤ length stood) (in_List : at < len → old ≡ get_or stood at no_entry) where
+module _ (stood : List Entry) (len at : ℕ) (new old : Entry) (short : len ≤ 1024) (k : len ≤ length stood) (in_list : at < len → old ≡ get_or stood at no_entry) where
   listed_next : at < len → drop at (take len stood) ≡ old ∷ drop (at + 1) (take len stood)
-  listed_next h = rw (in_List h) (turn stood len no_entry k at h)
+  listed_next h = rw (in_list h) (turn stood len no_entry k at h)
 
   -- an old entry stands at its place, and past the list's end the new one
   old_stands : at < len → entry_at stood len new at ≡ old
-  old_stands h = rw (lt-ltb at len h) (sym (in_List h))
+  old_stands h = rw (lt-ltb at len h) (sym (in_list h))
 
   new_stands : entry_at stood len new 1024 ≡ new
   new_stands = rw (le-ltb 1024 len short)
