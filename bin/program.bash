@@ -9,9 +9,10 @@ fail() {
 root=$(cd "$(dirname "${BASH_SOURCE[0]}")/.." && pwd) || exit 2
 program=$root/crates/$crate/out/$crate
 
-# What is made beside the sources, in out/, does not count; what is touched after the build's beginning is newer.
+# What is touched after the build's beginning is newer; a folder is, once a file of it is gone. out/ is made beside the sources, and with it its crate's folder changes: neither counts.
 newer() {
-  find "$root/crates" "$root/crates.txt" -name out -prune -o -type f -newer "$program" -print -quit
+  find "$root/crates" -mindepth 2 -name out -prune -o -newer "$program" -print -quit
+  find "$root/crates.txt" -newer "$program"
 }
 
 if [ ! -x "$program" ] || [ -n "$(newer)" ]; then

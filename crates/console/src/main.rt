@@ -221,6 +221,7 @@ fn put_answer(
 }
 
 // The blocks of the due boards, one behind the other.
+#[tactic(auto, using(crate::proofs::Shows::front))]
 fn put_blocks(
     rt: &(impl Print + Eprint),
     moment: u32,

@@ -2,7 +2,7 @@
 use mathlib.Core.Path.{◌≡◌, ap}
 use mathlib.Core.List.Memᴰ
 use mathlib.Core.List.{List, [], ◌∷◌}
-use mathlib.Core.Bool.{true, and-eq-true_iff}
+use mathlib.Core.Bool.{true, false, and-eq-true_iff}
 use mathlib.Core.Logic.{inl, inr}
 use Prim.Native.Nat.{ℕ, ◌≤◌}
 use native.Mathlib.Omega.{arith}
@@ -16,17 +16,22 @@ use Rattle.rules.specs.Desk.{limit, need, needs, board_fits, loaded, listed}
 use Rattle.rules.specs.Moments.{reached}
 use Rattle.rules.specs.SharedList.{named, ahead, placed}
 use Rattle.rules.specs.Cells.{cells}
-use Rattle.rules.specs.Refusals.{entry_fits, reply_need, InOrder}
+use Rattle.rules.specs.Refusals.{disorder, entry_fits, reply_need, InOrder}
 use Rattle.rules.specs.Calls.{with_list, requested, moved_to, stepped_by}
 use Rattle.rules.specs.declared.Board.{Board}
 use Rattle.rules.specs.declared.Entry.{Entry}
 use Rattle.rules.specs.declared.Desk.{Desk}
 use Rattle.rules.proofs.Fitting.{board_fits_lem, all_slide, entry_fits_lem}
+use Rattle.rules.proofs.Refusing.{in_order}
 use Rattle.rules.proofs.Stepping.{reached_from}
 use Rattle.rules.proofs.Nesting.{named_cells}
 use Rattle.reply.specs.Written.{writable, wrote, blocks_into}
 use Rattle.desk.specs.Outcomes.{taken, moved_by}
 use Rattle.walk.specs.Walk.{sum_cells, holdable, walkable, thinned_to, with_entry}
+
+-- a desk in order has few boards and entries
+pub small : (d : Desk) → disorder d ≡ false → (d.count ≤ 32) × (d.len ≤ 1024)
+small d o = let p = in_order d o in (p.few, omega (arith, p.short, p.room))
 
 -- k is at least 1
 cells_need : (bs : List Board) → all board_fits bs ≡ true → sum_cells bs ≤ needs bs

@@ -111,7 +111,7 @@ fn stepped(taken: Taken) -> Moved
 }
 
 // Load a board.
-#[tactic(auto, using(crate::proofs::Taking::asked_of_lem), unfolding(rules::specs::Calls::board_call))]
+#[tactic(auto, unfolding(rules::specs::Calls::board_call))]
 pub fn load(desk: Desk, board: Board) -> Called
     ensures { called result ≡ board_call desk board }
 {
@@ -122,7 +122,7 @@ pub fn load(desk: Desk, board: Board) -> Called
 }
 
 // The calls on a desk in order end in `_in_order`: a message asks for disorder once, and the desk is copied less often.
-#[tactic(auto, using(crate::proofs::Sums::fits, crate::proofs::Sums::fits_not, std::proofs::lemmas::Bool::Decides::nat_tests), unfolding(rules::specs::Calls::board_call))]
+#[tactic(auto, unfolding(rules::specs::Calls::board_call))]
 fn load_in_order(desk: Desk, board: Board) -> Taken
     requires { disorder desk ≡ false }
     ensures { taken result [] ≡ asked_by [] (board_call desk board) }
@@ -150,7 +150,7 @@ fn load_in_order(desk: Desk, board: Board) -> Taken
 }
 
 // Open the desk.
-#[tactic(auto, using(crate::proofs::Taking::asked_of_lem), unfolding(rules::specs::Calls::open_call))]
+#[tactic(auto, unfolding(rules::specs::Calls::open_call))]
 pub fn open(desk: Desk) -> Called
     ensures { called result ≡ open_call desk }
 {
@@ -160,7 +160,7 @@ pub fn open(desk: Desk) -> Called
     asked(open_in_order(desk))
 }
 
-#[tactic(auto, using(std::proofs::lemmas::Bool::Decides::nat_tests), unfolding(rules::specs::Calls::open_call))]
+#[tactic(auto, unfolding(rules::specs::Calls::open_call))]
 fn open_in_order(desk: Desk) -> Taken
     requires { disorder desk ≡ false }
     ensures { taken result [] ≡ asked_by [] (open_call desk) }
@@ -180,7 +180,7 @@ fn open_in_order(desk: Desk) -> Taken
 }
 
 // The length of the shared list.
-#[tactic(auto, using(rules::proofs::Refusing::in_order), unfolding(rules::specs::Calls::length_call))]
+#[tactic(auto, using(crate::proofs::Keeping::small), unfolding(rules::specs::Calls::length_call))]
 pub fn length(desk: Desk) -> Measured
     ensures { measured result ≡ length_call desk }
 {
@@ -191,7 +191,7 @@ pub fn length(desk: Desk) -> Measured
 }
 
 // The entry at a place of the shared list.
-#[tactic(auto, using(rules::proofs::Refusing::in_order, std::proofs::lemmas::Bool::Decides::nat_tests), unfolding(rules::specs::Calls::place_call))]
+#[tactic(auto, using(crate::proofs::Keeping::small), unfolding(rules::specs::Calls::place_call))]
 pub fn place(desk: Desk, at: usize) -> Found
     ensures { found result ≡ place_call desk at }
 {
@@ -227,7 +227,7 @@ fn reached(boards: [Board; 32], count: usize, clock: u32, target: u32) -> u32
 }
 
 // A request at the desk's clock. It answers only that it was accepted.
-#[tactic(auto, using(crate::proofs::Taking::asked_of_lem), unfolding(rules::specs::Calls::request_call))]
+#[tactic(auto, unfolding(rules::specs::Calls::request_call))]
 pub fn request(desk: Desk, topic: u32, id: u32, score: u32) -> Called
     ensures { called result ≡ request_call desk topic id score }
 {
@@ -237,7 +237,7 @@ pub fn request(desk: Desk, topic: u32, id: u32, score: u32) -> Called
     asked(request_in_order(desk, topic, id, score))
 }
 
-#[tactic(auto, using(rules::proofs::Refusing::in_order, crate::proofs::Keeping::entry_named, std::proofs::lemmas::Bool::Decides::nat_tests), unfolding(rules::specs::Calls::request_call))]
+#[tactic(auto, using(rules::proofs::Refusing::in_order, crate::proofs::Keeping::entry_named), unfolding(rules::specs::Calls::request_call))]
 fn request_in_order(desk: Desk, topic: u32, id: u32, score: u32) -> Taken
     requires { disorder desk ≡ false }
     ensures { taken result [] ≡ asked_by [] (request_call desk topic id score) }
@@ -279,7 +279,7 @@ fn move_on(desk: Desk, at: u32, reply: &mut [u32]) -> Taken
 }
 
 // Step to the earliest moment above the clock and not above the target, or to the target.
-#[tactic(auto, using(crate::proofs::Taking::stepped_of_lem), unfolding(rules::specs::Calls::step_call))]
+#[tactic(auto, unfolding(rules::specs::Calls::step_call))]
 pub fn step(desk: Desk, target: u32, reply: &mut [u32]) -> Moved
     ensures { step_outcome result reply.new ≡ step_call desk target reply.old }
 {
@@ -289,7 +289,7 @@ pub fn step(desk: Desk, target: u32, reply: &mut [u32]) -> Moved
     stepped(step_in_order(desk, target, reply))
 }
 
-#[tactic(auto, using(rules::proofs::Refusing::in_order, crate::proofs::Keeping::moves, crate::proofs::Keeping::not_back, std::proofs::lemmas::Bool::Decides::nat_tests), unfolding(rules::specs::Calls::step_call))]
+#[tactic(auto, using(rules::proofs::Refusing::in_order, crate::proofs::Keeping::small, crate::proofs::Keeping::moves, crate::proofs::Keeping::not_back, std::proofs::lemmas::Bool::Decides::nat_tests), unfolding(rules::specs::Calls::step_call))]
 fn step_in_order(desk: Desk, target: u32, reply: &mut [u32]) -> Taken
     requires { disorder desk ≡ false }
     ensures { taken result reply.new ≡ stepped_by (step_call desk target reply.old) }
@@ -322,7 +322,7 @@ fn step_in_order(desk: Desk, target: u32, reply: &mut [u32]) -> Taken
 }
 
 // Take a message: the call that its kind names.
-#[tactic(auto, using(crate::proofs::Taking::beside, crate::proofs::Taking::disordered, std::proofs::lemmas::Bool::Decides::nat_tests), unfolding(rules::specs::Calls::message_call))]
+#[tactic(auto, using(crate::proofs::Taking::disordered), unfolding(rules::specs::Calls::message_call))]
 pub fn take(desk: Desk, message: Message, reply: &mut [u32]) -> Taken
     ensures { taken result reply.new ≡ message_call desk message reply.old }
 {

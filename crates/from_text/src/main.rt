@@ -56,6 +56,7 @@ fn unreadable(rt: &impl Eprint) {
 }
 
 // Writes out the messages of a piece; then says which line is refused, if one is.
+#[tactic(auto, using(text::proofs::Room::roomy, std::proofs::lemmas::Grind::common_steps))]
 fn take(
     rt: &(impl Print + Eprint),
     line: Begun,

@@ -149,7 +149,7 @@ fn zero(bytes: &[u8], from: usize, end: usize) -> bool
 }
 
 // The bytes that must be zero are. The last arm is the clock's, as above.
-#[tactic(auto, using(lists::proofs::Best::all_append), unfolding(rules::specs::Messages::zeros_stand, rules::specs::Messages::zero_places, rules::specs::Messages::layout))]
+#[tactic(auto, unfolding(rules::specs::Messages::zeros_stand, rules::specs::Messages::zero_places, rules::specs::Messages::layout))]
 fn zeros_stand(bytes: &[u8], kind: u8) -> bool
     requires { 20 ≤ length bytes.now }
     ensures { result ≡ zeros_stand bytes.now kind }

@@ -42,7 +42,7 @@ fn sum_of_needs(boards: [Board; 32], count: usize) -> usize
 }
 
 // Whether the desk has at most 32 boards, and the sum of needs stays at most 1,024 with this board's.
-#[tactic(auto, using(crate::proofs::Places::takes, crate::proofs::Places::too_much), unfolding(rules::specs::Desk::needs))]
+#[tactic(auto, unfolding(rules::specs::Desk::needs))]
 pub fn fits_beside(desk: Desk, board: Board) -> bool
     ensures { result ≡ (leb desk.count 32 && leb (need_of board + needs (loaded desk)) 1024) }
 {
@@ -81,7 +81,7 @@ fn entry_fits(clock: u32, e: Entry) -> bool
 }
 
 // Whether all that document 01 asks of a desk before its entries is in order.
-#[tactic(auto, using(std::proofs::lemmas::Bool::Decides::nat_tests), unfolding(crate::specs::Standing::heads))]
+#[tactic(auto, unfolding(crate::specs::Standing::heads))]
 fn heads_stand(time: Time, boards: [Board; 32], count: usize, len: usize) -> bool
     ensures { result ≡ heads time (take count boards) count len }
 {

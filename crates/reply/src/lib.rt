@@ -24,7 +24,7 @@ fn boards_loaded(count: usize) -> usize
 }
 
 // The words that a reply must have: 2 + 3k for each board, due or not.
-#[tactic(auto, using(lists::proofs::Turns::take_least, std::proofs::lemmas::Grind::common_steps), unfolding(rules::specs::Refusals::reply_need))]
+#[tactic(auto, unfolding(rules::specs::Refusals::reply_need))]
 pub fn reply_need(desk: Desk) -> usize
     ensures { result ≡ reply_need (loaded desk) }
 {
@@ -65,7 +65,7 @@ fn write_block(number: u32, shown: u32, words: &[u32], reply: &mut [u32]) -> usi
 
 // Each due board's block is written into what remains of the reply. The words of its entries are gathered first, three for each:
 // a writer that was handed the list instead would be handed a copy of it for each due board.
-#[tactic(auto, using(crate::proofs::Filling::full, std::proofs::lemmas::Grind::common_steps), unfolding(rules::specs::Calls::blocks))]
+#[tactic(auto, unfolding(rules::specs::Calls::blocks))]
 fn write_due(desk: Desk, at: u32, reply: &mut [u32]) -> Wrote
     requires { (desk.count ≤ 32) × (desk.len ≤ 1024) × (reply_need (loaded desk) ≤ length reply.old) }
     ensures { (result ≡ all_written desk at) × (reply.new ≡ written (blocks 0 (loaded desk) at (listed desk)) reply.old) }
@@ -107,7 +107,7 @@ fn write_due(desk: Desk, at: u32, reply: &mut [u32]) -> Wrote
 }
 
 // The blocks of all boards due at a moment, in board order. What a step never hands in is answered too: nothing is written.
-#[tactic(auto, using(std::proofs::lemmas::Bool::Decides::nat_tests), unfolding(crate::specs::Written::wrote, crate::specs::Written::blocks_into, crate::specs::Written::writable))]
+#[tactic(auto, unfolding(crate::specs::Written::wrote, crate::specs::Written::blocks_into, crate::specs::Written::writable))]
 pub fn write_blocks(desk: Desk, at: u32, reply: &mut [u32]) -> Wrote
     ensures { (result ≡ wrote desk at (length reply.old)) × (reply.new ≡ blocks_into desk at reply.old) }
 {

@@ -221,7 +221,7 @@ pub fn moments_upto(board: Board, x: usize) -> usize
 }
 
 // The board's first moment above the clock; past the limit it is none.
-#[tactic(auto, using(crate::proofs::MomentLaw::upto_small, crate::proofs::MomentLaw::next_small), unfolding(crate::specs::Moments::moment))]
+#[tactic(auto, using(crate::proofs::MomentLaw::upto_small), unfolding(crate::specs::Moments::moment))]
 pub fn next_moment(board: Board, clock: u32) -> usize
     ensures { result ≡ moment board (upto board clock) }
 {

@@ -88,23 +88,23 @@ unknown k no-board no-request no-open no-clock =
 abbrev pub low : List ℕ → ℕ → ℕ
 low ns i = get_or ns i 0 % 2 ^ 32
 
-abbrev by_kind_lem : ℕ → ℕ → ℕ → ℕ → ℕ → Message
-by_kind_lem k a b c d = by_kind k (made 1 a b c d) (made 2 a b c 0) (made 3 0 0 0 0) (made 4 0 a 0 0)
+abbrev by_its_kind : ℕ → ℕ → ℕ → ℕ → ℕ → Message
+by_its_kind k a b c d = by_kind k (made 1 a b c d) (made 2 a b c 0) (made 3 0 0 0 0) (made 4 0 a 0 0)
 
 module _ (count v a b c d : ℕ) where
   abbrev six_with : ℕ → List ℕ
   six_with k = v ∷ k ∷ a ∷ b ∷ c ∷ d ∷ []
 
-  made_six : (k : ℕ) → within 1 4 k ≡ true → Formed count (six_with k) → of_numbers (take count (six_with k)) ≡ by_kind_lem k (a % 2 ^ 32) (b % 2 ^ 32) (c % 2 ^ 32) (d % 2 ^ 32)
+  made_six : (k : ℕ) → within 1 4 k ≡ true → Formed count (six_with k) → of_numbers (take count (six_with k)) ≡ by_its_kind k (a % 2 ^ 32) (b % 2 ^ 32) (c % 2 ^ 32) (d % 2 ^ 32)
   unfolding of_numbers field_parts layout
   made_six =
-      known_kind (λ k. Formed count (six_with k) → of_numbers (take count (six_with k)) ≡ by_kind_lem k (a % 2 ^ 32) (b % 2 ^ 32) (c % 2 ^ 32) (d % 2 ^ 32))
+      known_kind (λ k. Formed count (six_with k) → of_numbers (take count (six_with k)) ≡ by_its_kind k (a % 2 ^ 32) (b % 2 ^ 32) (c % 2 ^ 32) (d % 2 ^ 32))
       (λ f. let n : count ≡ 6 = fields_count f in rw (kept f 2 (omega arith), kept f 3 (omega arith), kept f 4 (omega arith), kept f 5 (omega arith), n))
       (λ f. let n : count ≡ 5 = fields_count f in rw (kept f 2 (omega arith), kept f 3 (omega arith), kept f 4 (omega arith), n))
       (λ f. let n : count ≡ 2 = fields_count f in rw n)
       (λ f. let n : count ≡ 3 = fields_count f in rw (kept f 2 (omega arith), n))
 
-made_low : (count : ℕ) (ns : List ℕ) → Formed count ns → of_numbers (take count ns) ≡ by_kind_lem (get_or ns 1 0) (low ns 2) (low ns 3) (low ns 4) (low ns 5)
+made_low : (count : ℕ) (ns : List ℕ) → Formed count ns → of_numbers (take count ns) ≡ by_its_kind (get_or ns 1 0) (low ns 2) (low ns 3) (low ns 4) (low ns 5)
 made_low count (v ∷ k ∷ a ∷ b ∷ c ∷ d ∷ []) f = made_six count v a b c d k (kind_known f) f
 made_low count [] f = absurd (omega (arith, f.six))
 made_low count (v ∷ []) f = absurd (omega (arith, f.six))
@@ -115,7 +115,7 @@ made_low count (v ∷ k ∷ a ∷ b ∷ c ∷ []) f = absurd (omega (arith, f.si
 made_low count (v ∷ k ∷ a ∷ b ∷ c ∷ d ∷ e ∷ ns) f = absurd (omega (arith, f.six))
 
 pub made_of : (count : ℕ) (ns : List ℕ) → Formed count ns → {a b c d : ℕ} → a ≡ low ns 2 → b ≡ low ns 3 → c ≡ low ns 4 → d ≡ low ns 5
-    → of_numbers (take count ns) ≡ by_kind_lem (get_or ns 1 0) a b c d
+    → of_numbers (take count ns) ≡ by_its_kind (get_or ns 1 0) a b c d
 made_of count ns f a b c d = rw (a, b, c, d) (made_low count ns f)
 
 -- more than six of six are six

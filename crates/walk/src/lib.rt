@@ -54,7 +54,7 @@ fn is_holdable(boards: [Board; 32], count: usize, len: usize) -> bool
 }
 
 // The moment of a board's view of this number.
-#[tactic(auto, using(crate::proofs::Edges::moment_fits), unfolding(rules::specs::Moments::moment))]
+#[tactic(auto, unfolding(rules::specs::Moments::moment))]
 fn moment(board: Board, first: usize, views: usize, view: usize) -> usize
     requires { Numbered board first views × (view ≤ views) }
     ensures { result ≡ moment_of board (first + view) }
@@ -63,7 +63,7 @@ fn moment(board: Board, first: usize, views: usize, view: usize) -> usize
 }
 
 // The first tick that the board still shows when so many of its views are full.
-#[tactic(auto, using(std::proofs::lemmas::Bool::Decides::nat_tests), unfolding(crate::specs::Edges::edge))]
+#[tactic(auto, unfolding(crate::specs::Edges::edge))]
 fn edge(board: Board, first: usize, views: usize, full: usize) -> usize
     requires { Numbered board first views }
     ensures { result ≡ edge_of board first views full }
@@ -222,7 +222,7 @@ fn mark_all(
 }
 
 // A new entry stands before the first whose score is below its own, or at the list's end.
-#[tactic(auto, using(std::proofs::lemmas::Bool::Decides::nat_tests), unfolding(crate::specs::Line::met_at))]
+#[tactic(auto, unfolding(crate::specs::Line::met_at))]
 fn meet(new: Entry, waiting: usize, old: Entry, at: usize, len: usize) -> Met
     requires { at ≤ 1024 }
     ensures { result ≡ met_at new waiting old at len }
