@@ -4,7 +4,7 @@
 usage: python3 tools/spell.py           after port.py, once, at the top of the checkout: rewrites crates/, and the names that docs/ and README.md quote
        python3 tools/spell.py --list    prints old name, new name and the files that define it, and rewrites nothing
 
-Functions of src/, exported names, strings and must-fail edits are left alone. A lemma that would have its definition's name gets '_lem'.
+Exported names, strings and must-fail edits are left alone, and functions of src/ but two that bear a lemma's name (docs/PORT.md). A lemma that would have its definition's name gets '_lem'.
 A name that stands in the library with the same dash stays. Proof files of one function are renamed in what they cite and not in what they define.
 """
 import collections
