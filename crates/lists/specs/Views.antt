@@ -1,5 +1,6 @@
 -- A list stands best first. A view shows the first `cap` elements that are inside it. What no view shows can go.
 use Rattle.std.specs.Prelude.{◌≡◌, Bool, true, false, cond, ◌&&◌, ◌||◌, ℕ, suc, ◌+◌, ◌-◌, ◌≤◌, ◌<◌, ltb, take}
+use Rattle.std.specs.List.{list_all}
 use mathlib.Core.List.{List, [], ◌∷◌, Memᴰ, map}
 
 pub record View (A : Type 0) : Type 0 where
@@ -28,8 +29,7 @@ module _ {A : Type 0} where
   count p (x ∷ xs) = cond (p x) (suc (count p xs)) (count p xs)
 
   abbrev pub all : (A → Bool) → List A → Bool
-  all p [] = true
-  all p (x ∷ xs) = p x && all p xs
+  all p xs = list_all p xs
 
   -- what a view shows
   abbrev pub first : View A → List A → List A

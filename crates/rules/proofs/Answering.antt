@@ -4,14 +4,9 @@ use mathlib.Core.Bool.{cond}
 use Prim.Native.Nat.{ℕ}
 use native.Mathlib.Omega.{arith}
 use lib.Dec.{eqb}
-use Rattle.rules.specs.Calls.{Steps}
-use Rattle.rules.specs.Replies.{number, asked, stepped, measured, found, read, answered}
-use Rattle.rules.specs.declared.Asked.{Asked}
-use Rattle.rules.specs.declared.Stepped.{Stepped}
-use Rattle.rules.specs.declared.Measured.{Measured}
-use Rattle.rules.specs.declared.Found.{Found}
-use Rattle.rules.specs.declared.Read.{Read}
-use Rattle.rules.specs.declared.Answered.{Answered}
+use Rattle.std.specs.Prelude.{Option, Some, None, Result, Ok, Err}
+use Rattle.rules.specs.Replies.{number, replied, answered}
+use Rattle.rules.specs.declared.Steps.{Steps}
 use Rattle.rules.specs.declared.Refusal.{Refusal}
 
 numbered : ℕ → Refusal
@@ -55,55 +50,27 @@ again Refusal.Disorder = refl
 pub same_number : (r s : Refusal) → number r ≡ number s → r ≡ s
 same_number r s e = sym (again r) ∙ ap numbered e ∙ again s
 
--- Each translation tells its answers apart: equal replies, equal answers.
+-- Equal replies, equal answers.
 
 apart : {C : Type 0} → ◌≡◌ {A = ℕ} 0 1 → C
 apart e = absurd (omega arith)
 
-pub same_asked : (a b : Asked) → asked a ≡ asked b → a ≡ b
-same_asked Asked.Accepted Asked.Accepted e = refl
-same_asked Asked.Accepted (Asked.Refused s) e = apart (cc)
-same_asked (Asked.Refused r) Asked.Accepted e = apart (cc)
-same_asked (Asked.Refused r) (Asked.Refused s) e = ap Asked.Refused (same_number r s (cc))
+pub same_replied : {A : Type 0} (a b : Result A Refusal) → replied a ≡ replied b → a ≡ b
+same_replied (Ok a) (Ok b) e = cc
+same_replied (Ok a) (Err s) e = apart (cc)
+same_replied (Err r) (Ok b) e = apart (cc)
+same_replied (Err r) (Err s) e = ap Err (same_number r s (cc))
 
-pub same_stepped : (a b : Stepped) → stepped a ≡ stepped b → a ≡ b
-same_stepped (Stepped.Reached c d w) (Stepped.Reached c' d' w') e =
-    let s : ◌≡◌ {A = Steps} (record { clock = c; due = d; words = w }) (record { clock = c'; due = d'; words = w' }) = cc in
-    ap (λ (t : Steps). Stepped.Reached t.clock t.due t.words) s
-same_stepped (Stepped.Reached c d w) (Stepped.Refused s) e = apart (cc)
-same_stepped (Stepped.Refused r) (Stepped.Reached c d w) e = apart (cc)
-same_stepped (Stepped.Refused r) (Stepped.Refused s) e = ap Stepped.Refused (same_number r s (cc))
-
-pub same_measured : (a b : Measured) → measured a ≡ measured b → a ≡ b
-same_measured (Measured.Length m) (Measured.Length n) e = cc
-same_measured (Measured.Length m) (Measured.Refused s) e = apart (cc)
-same_measured (Measured.Refused r) (Measured.Length n) e = apart (cc)
-same_measured (Measured.Refused r) (Measured.Refused s) e = ap Measured.Refused (same_number r s (cc))
-
-pub same_found : (a b : Found) → found a ≡ found b → a ≡ b
-same_found (Found.Entry m) (Found.Entry n) e = cc
-same_found (Found.Entry m) (Found.Refused s) e = apart (cc)
-same_found (Found.Refused r) (Found.Entry n) e = apart (cc)
-same_found (Found.Refused r) (Found.Refused s) e = ap Found.Refused (same_number r s (cc))
-
-pub same_read : (a b : Read) → read a ≡ read b → a ≡ b
-same_read (Read.Message m) (Read.Message n) e = cc
-same_read (Read.Message m) (Read.Refused s) e = apart (cc)
-same_read (Read.Refused r) (Read.Message n) e = apart (cc)
-same_read (Read.Refused r) (Read.Refused s) e = ap Read.Refused (same_number r s (cc))
-
-pub same_answered : (a b : Answered) → answered a ≡ answered b → a ≡ b
-same_answered Answered.Accepted Answered.Accepted e = refl
-same_answered Answered.Accepted (Answered.Reached c d w) e = apart (cc)
-same_answered Answered.Accepted (Answered.Refused s) e = apart (cc)
-same_answered (Answered.Reached c d w) Answered.Accepted e = apart (cc)
-same_answered (Answered.Reached c d w) (Answered.Reached c' d' w') e =
-    let s : ◌≡◌ {A = Steps} (record { clock = c; due = d; words = w }) (record { clock = c'; due = d'; words = w' }) = cc in
-    ap (λ (t : Steps). Answered.Reached t.clock t.due t.words) s
-same_answered (Answered.Reached c d w) (Answered.Refused s) e = apart (cc)
-same_answered (Answered.Refused r) Answered.Accepted e = apart (cc)
-same_answered (Answered.Refused r) (Answered.Reached c d w) e = apart (cc)
-same_answered (Answered.Refused r) (Answered.Refused s) e = ap Answered.Refused (same_number r s (cc))
+pub same_answered : (a b : Result (Option Steps) Refusal) → answered a ≡ answered b → a ≡ b
+same_answered (Ok None) (Ok None) e = refl
+same_answered (Ok None) (Ok (Some t)) e = apart (cc)
+same_answered (Ok None) (Err s) e = apart (cc)
+same_answered (Ok (Some t)) (Ok None) e = apart (cc)
+same_answered (Ok (Some t)) (Ok (Some u)) e = cc
+same_answered (Ok (Some t)) (Err s) e = apart (cc)
+same_answered (Err r) (Ok None) e = apart (cc)
+same_answered (Err r) (Ok (Some t)) e = apart (cc)
+same_answered (Err r) (Err s) e = ap Err (same_number r s (cc))
 
 -- A promise that equates what an answer comes to determines the answer.
 pub determined : {A B : Type 0} (of : A → B) → ((a b : A) → of a ≡ of b → a ≡ b) → (promised : B) (r s : A) → of r ≡ promised → of s ≡ promised → r ≡ s

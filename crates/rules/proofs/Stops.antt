@@ -15,11 +15,12 @@ use Rattle.lists.proofs.Bools.{by, either, untrue, clash}
 use Rattle.rules.specs.Desk.{limit, loaded}
 use Rattle.rules.specs.Moments.{Moment, is_moment, some_moment, ticks_from, ticks, Reached, reached}
 use Rattle.rules.specs.Refusals.{Rule, judged, step_rules}
-use Rattle.rules.specs.Calls.{Steps, StepOutcome, stays, moved_to, step_call, StepsTo}
+use Rattle.rules.specs.Calls.{StepOutcome, stays, moved_to, step_call, StepsTo}
 use Rattle.rules.specs.Calls.Reply.{refused, accepted}
 use Rattle.rules.specs.Calls.StepsTo.{there, again}
 use Rattle.rules.specs.declared.Board.{Board}
 use Rattle.rules.specs.declared.Desk.{Desk}
+use Rattle.rules.specs.declared.Steps.{Steps}
 use Rattle.rules.proofs.Fitting.{all_slide}
 use Rattle.rules.proofs.MomentLaw.{is_moment_lem}
 use Rattle.rules.proofs.Refusing.{Denied, Granted, judged_cases, in_order}

@@ -10,6 +10,7 @@ use Rattle.rules.specs.declared.Board.{Board}
 use Rattle.rules.specs.declared.Entry.{Entry}
 use Rattle.rules.specs.declared.Message.{Message}
 use Rattle.rules.specs.declared.Desk.{Desk}
+use Rattle.rules.specs.declared.Steps.{Steps}
 
 -- a refusal's number only, or what the call returns
 pub data Reply (A : Type 0) : Type 0 where
@@ -109,12 +110,7 @@ unfoldable pub blocks : ℕ → List Board → ℕ → List Entry → List ℕ
 blocks number [] T es = []
 blocks number (b ∷ bs) T es = cond (is_moment b T) (block number (shown_at b T es)) [] ++ blocks (suc number) bs T es
 
--- the clock reached, the number of due boards, the number of words written
-pub record Steps : Type 0 where
-  pub clock : ℕ
-  pub due : ℕ
-  pub words : ℕ
-
+-- An accepted step returns the clock reached, the number of due boards and the number of words written.
 pub record StepOutcome : Type 0 where
   pub reply : Reply Steps
   pub desk : Desk

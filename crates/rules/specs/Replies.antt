@@ -1,17 +1,13 @@
 -- For each answer that is an enum in the code: this paper's number and values for each case.
-use Rattle.std.specs.Prelude.{ℕ}
-use Rattle.rules.specs.Calls.{Reply, Steps, Done}
+use Rattle.std.specs.Prelude.{ℕ, cond, Option, Some, None, Result, Ok, Err}
+use Rattle.rules.specs.Desk.{within}
+use Rattle.rules.specs.Messages.{by_kind}
+use Rattle.rules.specs.Calls.{Reply, Done}
 use Rattle.rules.specs.Calls.Done.{done, moved}
 use Rattle.rules.specs.Calls.Reply.{refused, accepted}
-use Rattle.rules.specs.declared.Entry.{Entry}
-use Rattle.rules.specs.declared.Message.{Message}
+use Rattle.rules.specs.declared.Kind.{Kind}
 use Rattle.rules.specs.declared.Refusal.{Refusal}
-use Rattle.rules.specs.declared.Asked.{Asked}
-use Rattle.rules.specs.declared.Stepped.{Stepped}
-use Rattle.rules.specs.declared.Measured.{Measured}
-use Rattle.rules.specs.declared.Found.{Found}
-use Rattle.rules.specs.declared.Read.{Read}
-use Rattle.rules.specs.declared.Answered.{Answered}
+use Rattle.rules.specs.declared.Steps.{Steps}
 
 abbrev pub number : Refusal → ℕ
 number Refusal.Short = 1
@@ -31,27 +27,17 @@ number Refusal.Room = 14
 number Refusal.Form = 15
 number Refusal.Disorder = 99
 
-abbrev pub asked : Asked → Reply Unit
-asked Asked.Accepted = accepted tt
-asked (Asked.Refused r) = refused (number r)
+-- the kind of a number: 1 to 4; any other is refused
+abbrev pub kind_of : ℕ → Result Kind Refusal
+kind_of n = cond (within 1 4 n) (Ok (by_kind n Kind.Board Kind.Request Kind.Open Kind.Clock)) (Err Refusal.Kind)
 
-abbrev pub stepped : Stepped → Reply Steps
-stepped (Stepped.Reached clock due words) = accepted (record { clock = clock; due = due; words = words })
-stepped (Stepped.Refused r) = refused (number r)
+-- a call's answer
+abbrev pub replied : {A : Type 0} → Result A Refusal → Reply A
+replied (Ok a) = accepted a
+replied (Err r) = refused (number r)
 
-abbrev pub measured : Measured → Reply ℕ
-measured (Measured.Length n) = accepted n
-measured (Measured.Refused r) = refused (number r)
-
-abbrev pub found : Found → Reply Entry
-found (Found.Entry e) = accepted e
-found (Found.Refused r) = refused (number r)
-
-abbrev pub read : Read → Reply Message
-read (Read.Message m) = accepted m
-read (Read.Refused r) = refused (number r)
-
-abbrev pub answered : Answered → Reply Done
-answered Answered.Accepted = accepted done
-answered (Answered.Reached clock due words) = accepted (moved (record { clock = clock; due = due; words = words }))
-answered (Answered.Refused r) = refused (number r)
+-- a message's answer: of a step, what it returns; of any other call nothing
+abbrev pub answered : Result (Option Steps) Refusal → Reply Done
+answered (Ok None) = accepted done
+answered (Ok (Some s)) = accepted (moved s)
+answered (Err r) = refused (number r)

@@ -1,11 +1,17 @@
 // Document 01's values: what a desk has, what a message holds, what a call answers; and the leaf functions on one board.
 #![tactic(auto)]
 
-ghost use Rattle.std.specs.Prelude.{◌≡◌, ◌-◌, min};
-ghost use Rattle.rules.specs.Desk.{names as names_of, need as need_of, within as within_of, board_fits, request_fits, clock_fits};
+ghost use Rattle.std.specs.Prelude.{◌≡◌};
+ghost use Rattle.rules.specs.Desk.{names, need, board_fits, request_fits, clock_fits, loaded, listed, is_open};
 ghost use Rattle.rules.specs.Moments.{is_moment, moment, upto, in_window};
-ghost use Rattle.rules.specs.Cells.{cells as cells_of};
-ghost use Rattle.rules.specs.Replies.{number as number_of};
+ghost use Rattle.rules.specs.Cells.{cells};
+ghost use Rattle.rules.specs.Replies.{number, kind_of};
+
+use std::error::Error;
+use std::fmt;
+
+// The last tick of the clock, and the highest score.
+pub const LIMIT: u32 = 1_000_000_000;
 
 #[repr(C)]
 #[derive(Clone, Copy)]
@@ -26,7 +32,7 @@ pub struct Entry {
     pub topic: u32,
 }
 
-// The phase is 0 while loading and 1 while open.
+// The phase is 0 while loading and 1 while open; a number, for C lends the desk, and any other is refused with 99.
 #[repr(C)]
 #[derive(Clone, Copy)]
 pub struct Time {
@@ -45,7 +51,7 @@ pub struct Desk {
     pub entries: [Entry; 1024],
 }
 
-// A message's kind, its byte 6, and its numbers at bytes 8, 12 and 16.
+// A message's kind, its byte 6, and its numbers at bytes 8, 12 and 16. The kind is a number, for a message of any other kind is refused with 4.
 #[repr(C)]
 #[derive(Clone, Copy)]
 pub struct Message {
@@ -56,105 +62,173 @@ pub struct Message {
     pub third: u32,
 }
 
-// The refusals of documents 01 and 02, in the order of their numbers.
-#[derive(Clone, Copy)]
+// The kinds of messages.
+#[derive(Clone, Copy, Debug, PartialEq, Eq)]
+pub enum Kind {
+    Board,
+    Request,
+    Open,
+    Clock,
+}
+
+// The refusals of documents 01 and 02, by their numbers.
+#[derive(Clone, Copy, Debug, PartialEq, Eq)]
 pub enum Refusal {
-    Short,
-    Mark,
-    Version,
-    Kind,
-    Nonzero,
-    Range,
-    Boards,
-    Needs,
-    Phase,
-    Boardless,
-    Past,
-    Reply,
-    Place,
-    Room,
-    Form,
-    Disorder,
+    Short = 1,
+    Mark = 2,
+    Version = 3,
+    Kind = 4,
+    Nonzero = 5,
+    Range = 6,
+    Boards = 7,
+    Needs = 8,
+    Phase = 9,
+    Boardless = 10,
+    Past = 11,
+    Reply = 12,
+    Place = 13,
+    Room = 14,
+    Form = 15,
+    Disorder = 99,
 }
 
-// What a call answers: to a board, an open or a request; to a step; to the list's length; to a place of it; to the bytes of a message.
-#[derive(Clone, Copy)]
-pub enum Asked {
-    Accepted,
-    Refused(Refusal),
+// What an accepted step returns: the clock reached, the number of due boards, the number of words written.
+#[derive(Clone, Copy, Debug, PartialEq, Eq)]
+pub struct Steps {
+    pub clock: u32,
+    pub due: u32,
+    pub words: u32,
 }
 
-#[derive(Clone, Copy)]
-pub enum Stepped {
-    Reached { clock: u32, due: u32, words: u32 },
-    Refused(Refusal),
-}
+impl TryFrom<u32> for Kind {
+    type Error = Refusal;
 
-#[derive(Clone, Copy)]
-pub enum Measured {
-    Length(u32),
-    Refused(Refusal),
-}
+    ghost try_from_gives = { λ n kind. kind ≡ kind_of n };
 
-#[derive(Clone, Copy)]
-pub enum Found {
-    Entry(Entry),
-    Refused(Refusal),
-}
-
-#[derive(Clone, Copy)]
-pub enum Read {
-    Message(Message),
-    Refused(Refusal),
-}
-
-// To a message: what its kind's call answers.
-#[derive(Clone, Copy)]
-pub enum Answered {
-    Accepted,
-    Reached { clock: u32, due: u32, words: u32 },
-    Refused(Refusal),
-}
-
-// Topics are 0 to 7; a mask of 0 names all eight.
-#[tactic(auto, unfolding(crate::specs::Desk::names))]
-pub fn names(board: Board, topic: u32) -> bool
-    ensures { result ≡ names_of board topic }
-{
-    let mask = board.mask;
-    if topic < 8 {
-        if mask == 0 {
-            return true;
+    fn try_from(number: u32) -> Result<Kind, Refusal> {
+        match number {
+            1 => Ok(Kind::Board),
+            2 => Ok(Kind::Request),
+            3 => Ok(Kind::Open),
+            4 => Ok(Kind::Clock),
+            0 | 5..=4294967295 => Err(Refusal::Kind),
         }
-        return (mask >> topic) % 2 == 1;
     }
-    false
 }
 
-fn within(low: u32, high: u32, n: u32) -> bool
-    ensures { result ≡ within_of low high n }
-{
-    if n < low {
-        return false;
+impl From<Refusal> for u32 {
+    ghost from_gives = { λ refusal n. n ≡ number refusal };
+
+    fn from(refusal: Refusal) -> u32 {
+        refusal as u32
     }
-    n <= high
 }
 
-// Whether the board's fields are in their ranges.
-#[tactic(auto, unfolding(crate::specs::Desk::board_fits))]
-pub fn board_fits(board: Board) -> bool
-    ensures { result ≡ board_fits board }
-{
-    if 255 < board.mask {
-        return false;
+// A refusal is printed as its number.
+impl fmt::Display for Refusal {
+    fn fmt<W: fmt::Write>(&self, f: &mut fmt::Formatter<W>) -> fmt::Result {
+        let number = u32::from(*self);
+        write!(f, "{number}")
     }
-    if within(1, 86400, board.window) {
-        if within(1, 86400, board.slide) {
-            return within(1, 256, board.k);
+}
+
+impl Error for Refusal {}
+
+impl Board {
+    // Whether the board's fields are in their ranges.
+    #[tactic(auto, unfolding(crate::specs::Desk::board_fits))]
+    pub fn fits(self) -> bool
+        ensures { result ≡ board_fits self }
+    {
+        self.mask <= 255
+            && (1..=86400).contains(&self.window)
+            && (1..=86400).contains(&self.slide)
+            && (1..=256).contains(&self.k)
+    }
+
+    // Topics are 0 to 7; a mask of 0 names all eight.
+    #[tactic(auto, unfolding(crate::specs::Desk::names))]
+    pub fn names(self, topic: u32) -> bool
+        ensures { result ≡ names self topic }
+    {
+        topic < 8 && (self.mask == 0 || (self.mask >> topic) % 2 == 1)
+    }
+
+    // The window divided by the slide, rounded up.
+    #[tactic(auto, unfolding(crate::specs::Cells::cells, crate::specs::Desk::rounded_up))]
+    pub fn cells(self) -> usize
+        ensures { result ≡ cells self }
+    {
+        let slide = self.slide as usize;
+        if slide == 0 {
+            return 0;
         }
-        return false;
+        (self.window as usize + (slide - 1)) / slide
     }
-    false
+
+    #[tactic(auto, using(crate::proofs::MomentLaw::rounded_small), unfolding(crate::specs::Desk::need, crate::specs::Cells::cells))]
+    pub fn need(self) -> usize
+        ensures { result ≡ need self }
+    {
+        self.k as usize * self.cells()
+    }
+
+    // How many of the board's moments are at most x.
+    #[tactic(auto, unfolding(crate::specs::Moments::upto))]
+    pub fn moments_upto(self, x: usize) -> usize
+        ensures { result ≡ upto self x }
+    {
+        let slide = self.slide as usize;
+        if slide == 0 {
+            return 0;
+        }
+        x.min(LIMIT as usize) / slide
+    }
+
+    // The board's first moment above the clock; past the limit it is none.
+    #[tactic(auto, using(crate::proofs::MomentLaw::upto_small), unfolding(crate::specs::Moments::moment))]
+    pub fn next_moment(self, clock: u32) -> usize
+        ensures { result ≡ moment self (upto self clock) }
+    {
+        (self.moments_upto(clock as usize) + 1) * self.slide as usize
+    }
+
+    #[tactic(auto, unfolding(crate::specs::Moments::is_moment))]
+    pub fn is_moment(self, tick: u32) -> bool
+        ensures { result ≡ is_moment self tick }
+    {
+        0 < tick && self.slide != 0 && tick % self.slide == 0 && tick <= LIMIT
+    }
+
+    // Whether the entry lies in the board's window at a moment.
+    #[tactic(auto, unfolding(crate::specs::Moments::in_window))]
+    pub fn in_window(self, at: u32, e: Entry) -> bool
+        ensures { result ≡ in_window self at e }
+    {
+        self.names(e.topic) && e.tick < at && at as usize <= e.tick as usize + self.window as usize
+    }
+}
+
+impl Desk {
+    // The boards in their order; an array has no more than 32, whatever the count says.
+    pub fn loaded(&self) -> &[Board]
+        ensures { result.now ≡ loaded self.now }
+    {
+        &self.boards[..self.count.min(32)]
+    }
+
+    // The entries on the list, best first; likewise no more than 1,024.
+    pub fn listed(&self) -> &[Entry]
+        ensures { result.now ≡ listed self.now }
+    {
+        &self.entries[..self.len.min(1024)]
+    }
+
+    pub fn is_open(&self) -> bool
+        ensures { result ≡ is_open self.now }
+    {
+        self.time.phase == 1
+    }
 }
 
 // Whether a request's topic and score are in their ranges.
@@ -162,124 +236,12 @@ pub fn board_fits(board: Board) -> bool
 pub fn request_fits(topic: u32, score: u32) -> bool
     ensures { result ≡ request_fits topic score }
 {
-    if 7 < topic {
-        return false;
-    }
-    score <= 1000000000
+    topic <= 7 && score <= LIMIT
 }
 
 // Whether a clock or a target is in its range.
 pub fn clock_fits(clock: u32) -> bool
     ensures { result ≡ clock_fits clock }
 {
-    clock <= 1000000000
-}
-
-// The window divided by the slide, rounded up.
-#[tactic(auto, unfolding(crate::specs::Cells::cells, crate::specs::Desk::rounded_up))]
-pub fn cells(board: Board) -> usize
-    ensures { result ≡ cells_of board }
-{
-    let slide = board.slide as usize;
-    if slide == 0 {
-        return 0;
-    }
-    (board.window as usize + (slide - 1)) / slide
-}
-
-#[tactic(auto, using(crate::proofs::MomentLaw::rounded_small), unfolding(crate::specs::Desk::need, crate::specs::Cells::cells))]
-pub fn need(board: Board) -> usize
-    ensures { result ≡ need_of board }
-{
-    board.k as usize * cells(board)
-}
-
-// The lesser of two.
-pub fn least(a: usize, b: usize) -> usize
-    ensures { result ≡ min a b }
-{
-    if a < b { a } else { b }
-}
-
-// The difference, or 0 where it would be below.
-pub fn less(a: usize, b: usize) -> usize
-    ensures { result ≡ a - b }
-{
-    if a < b { 0 } else { a - b }
-}
-
-// How many of the board's moments are at most x.
-#[tactic(auto, unfolding(crate::specs::Moments::upto))]
-pub fn moments_upto(board: Board, x: usize) -> usize
-    ensures { result ≡ upto board x }
-{
-    let slide = board.slide as usize;
-    if slide == 0 {
-        return 0;
-    }
-    least(x, 1000000000) / slide
-}
-
-// The board's first moment above the clock; past the limit it is none.
-#[tactic(auto, using(crate::proofs::MomentLaw::upto_small), unfolding(crate::specs::Moments::moment))]
-pub fn next_moment(board: Board, clock: u32) -> usize
-    ensures { result ≡ moment board (upto board clock) }
-{
-    let passed = moments_upto(board, clock as usize);
-    (passed + 1) * board.slide as usize
-}
-
-#[tactic(auto, unfolding(crate::specs::Moments::is_moment))]
-pub fn is_moment(board: Board, tick: u32) -> bool
-    ensures { result ≡ is_moment board tick }
-{
-    let slide = board.slide;
-    if tick == 0 {
-        return false;
-    }
-    if slide == 0 {
-        return false;
-    }
-    if tick % slide != 0 {
-        return false;
-    }
-    tick <= 1000000000
-}
-
-// Whether the entry lies in the board's window at a moment.
-#[tactic(auto, unfolding(crate::specs::Moments::in_window))]
-pub fn in_window(board: Board, at: u32, e: Entry) -> bool
-    ensures { result ≡ in_window board at e }
-{
-    if names(board, e.topic) {
-        if e.tick < at {
-            return at as usize <= e.tick as usize + board.window as usize;
-        }
-        return false;
-    }
-    false
-}
-
-// A refusal's number.
-pub fn number(refusal: Refusal) -> u32
-    ensures { result ≡ number_of refusal }
-{
-    match refusal {
-        Refusal::Short => 1,
-        Refusal::Mark => 2,
-        Refusal::Version => 3,
-        Refusal::Kind => 4,
-        Refusal::Nonzero => 5,
-        Refusal::Range => 6,
-        Refusal::Boards => 7,
-        Refusal::Needs => 8,
-        Refusal::Phase => 9,
-        Refusal::Boardless => 10,
-        Refusal::Past => 11,
-        Refusal::Reply => 12,
-        Refusal::Place => 13,
-        Refusal::Room => 14,
-        Refusal::Form => 15,
-        Refusal::Disorder => 99,
-    }
+    clock <= LIMIT
 }
