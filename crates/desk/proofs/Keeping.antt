@@ -4,6 +4,7 @@ use mathlib.Core.List.Memᴰ
 use mathlib.Core.List.{List, [], ◌∷◌}
 use mathlib.Core.Bool.{true, false, and-eq-true_iff}
 use mathlib.Core.Logic.{inl, inr}
+use Rattle.std.specs.Prelude.{Ok}
 use Prim.Native.Nat.{ℕ, ◌≤◌}
 use native.Mathlib.Omega.{arith}
 use native.Mathlib.Nat.{mul_comm, le-mul_of_pos_right}
@@ -17,7 +18,7 @@ use Rattle.rules.specs.Moments.{reached}
 use Rattle.rules.specs.SharedList.{named, ahead, placed}
 use Rattle.rules.specs.Cells.{cells}
 use Rattle.rules.specs.Refusals.{disorder, entry_fits, reply_need, InOrder}
-use Rattle.rules.specs.Calls.{with_list, requested, moved_to, stepped_by}
+use Rattle.rules.specs.Calls.{with_list, requested, moved_to}
 use Rattle.rules.specs.declared.Board.{Board}
 use Rattle.rules.specs.declared.Entry.{Entry}
 use Rattle.rules.specs.declared.Desk.{Desk}
@@ -26,7 +27,7 @@ use Rattle.rules.proofs.Refusing.{in_order}
 use Rattle.rules.proofs.Stepping.{reached_from}
 use Rattle.rules.proofs.Nesting.{named_cells}
 use Rattle.reply.specs.Written.{writable, wrote, blocks_into}
-use Rattle.desk.specs.Outcomes.{taken, moved_by}
+use Rattle.desk.specs.Outcomes.{step_outcome, moved_by}
 use Rattle.walk.specs.Walk.{sum_cells, holdable, walkable, thinned_to, with_entry}
 
 -- a desk in order has few boards and entries
@@ -69,7 +70,7 @@ module _ (d : Desk) (o : InOrder d) where
 
   -- A step that moves the clock, by its parts.
   pub moves : (T : ℕ) (slice : List ℕ) → d.time.clock ≤ T → reply_need (loaded d) ≤ length slice
-      → taken (moved_by d T (length slice)) (blocks_into d T slice) ≡ stepped_by (moved_to d T slice)
+      → step_outcome (Ok (moved_by d T (length slice))) (thinned_to d T) (blocks_into d T slice) ≡ moved_to d T slice
   unfolding wrote blocks_into writable
   moves T slice h k =
       rw (

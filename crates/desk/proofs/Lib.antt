@@ -1,4 +1,3 @@
-pub mod Sums
 pub mod Keeping
 pub mod Taking
 pub mod Tight

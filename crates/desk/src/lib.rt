@@ -1,36 +1,17 @@
-// The desk and its calls. A desk goes in by value and comes back by value, with the answer beside it.
+// The desk and its calls. A desk is lent and altered where it stands; a refused call leaves it, and the reply, as they stood.
 #![tactic(auto)]
 
-ghost use Rattle.std.specs.Prelude.{◌≡◌, [], false, ◌≤◌, min, length, take as first};
+ghost use Rattle.std.specs.Prelude.{◌≡◌, false, cond, length, Ok, Err};
 ghost use Rattle.rules.specs.Desk.{fresh as fresh_desk};
 ghost use Rattle.rules.specs.Moments.{reached as reached_by};
-ghost use Rattle.rules.specs.Calls.{length_call, place_call, board_call, open_call, request_call, step_call, message_call, asked_by, stepped_by};
+ghost use Rattle.rules.specs.Calls.{length_call, place_call, board_call, open_call, request_call, step_call, message_call};
 ghost use Rattle.rules.specs.Refusals.{disorder};
-ghost use Rattle.rules.specs.Replies.{measured, found};
+ghost use Rattle.rules.specs.Replies.{replied};
 ghost use Rattle.reply.specs.Written.{blocks_into};
-ghost use Rattle.desk.specs.Outcomes.{called, step_outcome, moved_by, taken, to_asked, to_stepped, asked_of, stepped_of};
+ghost use Rattle.walk.specs.Walk.{thinned_to};
+ghost use Rattle.desk.specs.Outcomes.{outcome, step_outcome, moved_by, message_outcome};
 
-use rules::{
-    Answered, Asked, Board, Desk, Entry, Found, Measured, Message, Refusal, Stepped, Time,
-};
-
-#[derive(Clone, Copy)]
-pub struct Called {
-    pub desk: Desk,
-    pub answer: Asked,
-}
-
-#[derive(Clone, Copy)]
-pub struct Moved {
-    pub desk: Desk,
-    pub answer: Stepped,
-}
-
-#[derive(Clone, Copy)]
-pub struct Taken {
-    pub desk: Desk,
-    pub answer: Answered,
-}
+use rules::{Board, Desk, Entry, Kind, Message, Refusal, Steps, Time};
 
 // A loading desk with no board, at clock 0.
 #[tactic(auto, unfolding(rules::specs::Desk::fresh))]
@@ -58,291 +39,197 @@ pub fn fresh() -> Desk
     }
 }
 
-fn refused(desk: Desk, refusal: Refusal) -> Taken
-    ensures { result ≡ record { desk = desk; answer = Answered.Refused refusal } }
+// A desk in disorder is refused before all else.
+fn in_order(desk: &Desk) -> Result<(), Refusal>
+    ensures { result ≡ cond (disorder desk.now) (Err Refusal.Disorder) (Ok tt) }
 {
-    Taken {
-        desk,
-        answer: Answered::Refused(refusal),
+    if order::in_disorder(desk) {
+        return Err(Refusal::Disorder);
     }
-}
-
-// A board, an open or a request never answers with a clock reached; a step never without one.
-fn to_asked(answer: Answered) -> Asked
-    ensures { result ≡ to_asked answer }
-{
-    match answer {
-        Answered::Accepted => Asked::Accepted,
-        Answered::Reached { clock, due, words } => Asked::Accepted,
-        Answered::Refused(refusal) => Asked::Refused(refusal),
-    }
-}
-
-fn to_stepped(answer: Answered) -> Stepped
-    ensures { result ≡ to_stepped answer }
-{
-    match answer {
-        Answered::Accepted => Stepped::Reached {
-            clock: 0,
-            due: 0,
-            words: 0,
-        },
-        Answered::Reached { clock, due, words } => Stepped::Reached { clock, due, words },
-        Answered::Refused(refusal) => Stepped::Refused(refusal),
-    }
-}
-
-fn asked(taken: Taken) -> Called
-    ensures { result ≡ asked_of taken }
-{
-    let answered = taken.answer;
-    let answer = to_asked(answered);
-    let desk = taken.desk;
-    Called { desk, answer }
-}
-
-fn stepped(taken: Taken) -> Moved
-    ensures { result ≡ stepped_of taken }
-{
-    let answered = taken.answer;
-    let answer = to_stepped(answered);
-    let desk = taken.desk;
-    Moved { desk, answer }
+    Ok(())
 }
 
 // Load a board.
 #[tactic(auto, unfolding(rules::specs::Calls::board_call))]
-pub fn load(desk: Desk, board: Board) -> Called
-    ensures { called result ≡ board_call desk board }
+pub fn load(desk: &mut Desk, board: Board) -> Result<(), Refusal>
+    ensures { outcome result desk.new ≡ board_call desk.old board }
 {
-    if order::in_disorder(desk) {
-        return asked(refused(desk, Refusal::Disorder));
-    }
-    asked(load_in_order(desk, board))
+    in_order(desk)?;
+    load_in_order(desk, board)
 }
 
-// The calls on a desk in order end in `_in_order`: a message asks for disorder once, and the desk is copied less often.
+// The calls on a desk in order end in `_in_order`: a message asks for disorder once.
 #[tactic(auto, unfolding(rules::specs::Calls::board_call))]
-fn load_in_order(desk: Desk, board: Board) -> Taken
-    requires { disorder desk ≡ false }
-    ensures { taken result [] ≡ asked_by [] (board_call desk board) }
+fn load_in_order(desk: &mut Desk, board: Board) -> Result<(), Refusal>
+    requires { disorder desk.old ≡ false }
+    ensures { outcome result desk.new ≡ board_call desk.old board }
 {
-    let count = desk.count;
-    if rules::board_fits(board) {
-        if desk.time.phase == 1 {
-            return refused(desk, Refusal::Phase);
-        }
-        if 32 <= count {
-            return refused(desk, Refusal::Boards);
-        }
-        if order::fits_beside(desk, board) {
-            let mut next = desk;
-            next.boards[count] = board;
-            next.count = count + 1;
-            return Taken {
-                desk: next,
-                answer: Answered::Accepted,
-            };
-        }
-        return refused(desk, Refusal::Needs);
+    if !board.fits() {
+        return Err(Refusal::Range);
     }
-    refused(desk, Refusal::Range)
+    if desk.is_open() {
+        return Err(Refusal::Phase);
+    }
+    if 32 <= desk.count {
+        return Err(Refusal::Boards);
+    }
+    if !order::fits_beside(desk, board) {
+        return Err(Refusal::Needs);
+    }
+    desk.boards[desk.count] = board;
+    desk.count += 1;
+    Ok(())
 }
 
 // Open the desk.
 #[tactic(auto, unfolding(rules::specs::Calls::open_call))]
-pub fn open(desk: Desk) -> Called
-    ensures { called result ≡ open_call desk }
+pub fn open(desk: &mut Desk) -> Result<(), Refusal>
+    ensures { outcome result desk.new ≡ open_call desk.old }
 {
-    if order::in_disorder(desk) {
-        return asked(refused(desk, Refusal::Disorder));
-    }
-    asked(open_in_order(desk))
+    in_order(desk)?;
+    open_in_order(desk)
 }
 
 #[tactic(auto, unfolding(rules::specs::Calls::open_call))]
-fn open_in_order(desk: Desk) -> Taken
-    requires { disorder desk ≡ false }
-    ensures { taken result [] ≡ asked_by [] (open_call desk) }
+fn open_in_order(desk: &mut Desk) -> Result<(), Refusal>
+    requires { disorder desk.old ≡ false }
+    ensures { outcome result desk.new ≡ open_call desk.old }
 {
-    if desk.time.phase == 1 {
-        return refused(desk, Refusal::Phase);
+    if desk.is_open() {
+        return Err(Refusal::Phase);
     }
     if desk.count == 0 {
-        return refused(desk, Refusal::Boardless);
+        return Err(Refusal::Boardless);
     }
-    let mut next = desk;
-    next.time.phase = 1;
-    Taken {
-        desk: next,
-        answer: Answered::Accepted,
+    desk.time.phase = 1;
+    Ok(())
+}
+
+// A request at the desk's clock. It answers only that it was accepted.
+#[tactic(auto, unfolding(rules::specs::Calls::request_call))]
+pub fn request(desk: &mut Desk, topic: u32, id: u32, score: u32) -> Result<(), Refusal>
+    ensures { outcome result desk.new ≡ request_call desk.old topic id score }
+{
+    in_order(desk)?;
+    request_in_order(desk, topic, id, score)
+}
+
+#[tactic(auto, using(rules::proofs::Refusing::in_order, crate::proofs::Keeping::entry_named), unfolding(rules::specs::Calls::request_call))]
+fn request_in_order(desk: &mut Desk, topic: u32, id: u32, score: u32) -> Result<(), Refusal>
+    requires { disorder desk.old ≡ false }
+    ensures { outcome result desk.new ≡ request_call desk.old topic id score }
+{
+    if !rules::request_fits(topic, score) {
+        return Err(Refusal::Range);
+    }
+    if !desk.is_open() {
+        return Err(Refusal::Phase);
+    }
+    let e = Entry {
+        id,
+        score,
+        tick: desk.time.clock,
+        topic,
+    };
+    walk::add(desk, e);
+    Ok(())
+}
+
+// Step to the earliest moment above the clock and not above the target, or to the target.
+#[tactic(auto, unfolding(rules::specs::Calls::step_call))]
+pub fn step(desk: &mut Desk, target: u32, reply: &mut [u32]) -> Result<Steps, Refusal>
+    ensures { step_outcome result desk.new reply.new ≡ step_call desk.old target reply.old }
+{
+    in_order(desk)?;
+    step_in_order(desk, target, reply)
+}
+
+#[tactic(auto, using(rules::proofs::Refusing::in_order, crate::proofs::Keeping::small, crate::proofs::Keeping::moves, crate::proofs::Keeping::not_back, std::proofs::lemmas::Bool::Decides::nat_tests), unfolding(rules::specs::Calls::step_call))]
+fn step_in_order(desk: &mut Desk, target: u32, reply: &mut [u32]) -> Result<Steps, Refusal>
+    requires { disorder desk.old ≡ false }
+    ensures { step_outcome result desk.new reply.new ≡ step_call desk.old target reply.old }
+{
+    let clock = desk.time.clock;
+    if !rules::clock_fits(target) {
+        return Err(Refusal::Range);
+    }
+    if !desk.is_open() {
+        return Err(Refusal::Phase);
+    }
+    if target < clock {
+        return Err(Refusal::Past);
+    }
+    if reply.len() < reply::reply_need(desk) {
+        return Err(Refusal::Reply);
+    }
+    if target == clock {
+        return Ok(Steps {
+            clock,
+            due: 0,
+            words: 0,
+        });
+    }
+    let at = reached(desk.loaded(), clock, target);
+    Ok(move_on(desk, at, reply))
+}
+
+// The earliest moment above the clock over all boards, or the target where that comes first.
+#[tactic(auto, using(rules::proofs::Stepping::reached_at_most), unfolding(rules::specs::Moments::reached))]
+fn reached(boards: &[Board], clock: u32, target: u32) -> u32
+    ensures { result ≡ reached_by boards.now clock target }
+{
+    let mut at = target as usize;
+    for board in boards {
+        at = at.min(board.next_moment(clock));
+    }
+    at as u32
+}
+
+// A step that moves the clock: the answers of all boards due, then the list that is still needed.
+fn move_on(desk: &mut Desk, at: u32, reply: &mut [u32]) -> Steps
+    ensures { (result ≡ moved_by desk.old at (length reply.old)) × (desk.new ≡ thinned_to desk.old at) × (reply.new ≡ blocks_into desk.old at reply.old) }
+{
+    let wrote = reply::write_blocks(desk, at, reply);
+    walk::thin(desk, at);
+    Steps {
+        clock: at,
+        due: wrote.due,
+        words: wrote.words,
     }
 }
 
 // The length of the shared list.
 #[tactic(auto, using(crate::proofs::Keeping::small), unfolding(rules::specs::Calls::length_call))]
-pub fn length(desk: Desk) -> Measured
-    ensures { measured result ≡ length_call desk }
+pub fn length(desk: &Desk) -> Result<u32, Refusal>
+    ensures { replied result ≡ length_call desk.now }
 {
-    if order::in_disorder(desk) {
-        return Measured::Refused(Refusal::Disorder);
-    }
-    Measured::Length(desk.len as u32)
+    in_order(desk)?;
+    Ok(desk.len as u32)
 }
 
 // The entry at a place of the shared list.
 #[tactic(auto, using(crate::proofs::Keeping::small), unfolding(rules::specs::Calls::place_call))]
-pub fn place(desk: Desk, at: usize) -> Found
-    ensures { found result ≡ place_call desk at }
+pub fn place(desk: &Desk, at: usize) -> Result<Entry, Refusal>
+    ensures { replied result ≡ place_call desk.now at }
 {
-    if order::in_disorder(desk) {
-        return Found::Refused(Refusal::Disorder);
-    }
+    in_order(desk)?;
     if desk.len <= at {
-        return Found::Refused(Refusal::Place);
+        return Err(Refusal::Place);
     }
-    let e = desk.entries[at];
-    Found::Entry(e)
+    Ok(desk.entries[at])
 }
 
-fn earlier(a: usize, b: u32) -> u32
-    ensures { result ≡ min a b }
-{
-    if a < b as usize { a as u32 } else { b }
-}
-
-// The earliest moment above the clock over all boards, or the target where that comes first.
-fn reached(boards: [Board; 32], count: usize, clock: u32, target: u32) -> u32
-    requires { count ≤ 32 }
-    ensures { result ≡ reached_by (first count boards) clock target }
-{
-    let mut at = target;
-    let mut i: usize = 0;
-    while i < count {
-        let board = boards[i];
-        at = earlier(rules::next_moment(board, clock), at);
-        i += 1;
-    }
-    at
-}
-
-// A request at the desk's clock. It answers only that it was accepted.
-#[tactic(auto, unfolding(rules::specs::Calls::request_call))]
-pub fn request(desk: Desk, topic: u32, id: u32, score: u32) -> Called
-    ensures { called result ≡ request_call desk topic id score }
-{
-    if order::in_disorder(desk) {
-        return asked(refused(desk, Refusal::Disorder));
-    }
-    asked(request_in_order(desk, topic, id, score))
-}
-
-#[tactic(auto, using(rules::proofs::Refusing::in_order, crate::proofs::Keeping::entry_named), unfolding(rules::specs::Calls::request_call))]
-fn request_in_order(desk: Desk, topic: u32, id: u32, score: u32) -> Taken
-    requires { disorder desk ≡ false }
-    ensures { taken result [] ≡ asked_by [] (request_call desk topic id score) }
-{
-    if rules::request_fits(topic, score) {
-        if desk.time.phase == 1 {
-            let e = Entry {
-                id,
-                score,
-                tick: desk.time.clock,
-                topic,
-            };
-            let next = walk::with_entry(desk, e);
-            return Taken {
-                desk: next,
-                answer: Answered::Accepted,
-            };
-        }
-        return refused(desk, Refusal::Phase);
-    }
-    refused(desk, Refusal::Range)
-}
-
-// A step that moves the clock: the answers of all boards due, and the list that is still needed then.
-// The list is thinned before the reply is written: the other way round the desk is copied once more.
-fn move_on(desk: Desk, at: u32, reply: &mut [u32]) -> Taken
-    ensures { (result ≡ moved_by desk at (length reply.old)) × (reply.new ≡ blocks_into desk at reply.old) }
-{
-    let next = walk::thinned(desk, at);
-    let wrote = reply::write_blocks(desk, at, reply);
-    Taken {
-        desk: next,
-        answer: Answered::Reached {
-            clock: at,
-            due: wrote.due,
-            words: wrote.words,
-        },
-    }
-}
-
-// Step to the earliest moment above the clock and not above the target, or to the target.
-#[tactic(auto, unfolding(rules::specs::Calls::step_call))]
-pub fn step(desk: Desk, target: u32, reply: &mut [u32]) -> Moved
-    ensures { step_outcome result reply.new ≡ step_call desk target reply.old }
-{
-    if order::in_disorder(desk) {
-        return stepped(refused(desk, Refusal::Disorder));
-    }
-    stepped(step_in_order(desk, target, reply))
-}
-
-#[tactic(auto, using(rules::proofs::Refusing::in_order, crate::proofs::Keeping::small, crate::proofs::Keeping::moves, crate::proofs::Keeping::not_back, std::proofs::lemmas::Bool::Decides::nat_tests), unfolding(rules::specs::Calls::step_call))]
-fn step_in_order(desk: Desk, target: u32, reply: &mut [u32]) -> Taken
-    requires { disorder desk ≡ false }
-    ensures { taken result reply.new ≡ stepped_by (step_call desk target reply.old) }
-{
-    let clock = desk.time.clock;
-    if 1000000000 < target {
-        return refused(desk, Refusal::Range);
-    }
-    if desk.time.phase != 1 {
-        return refused(desk, Refusal::Phase);
-    }
-    if target < clock {
-        return refused(desk, Refusal::Past);
-    }
-    if reply.len() < reply::reply_need(desk) {
-        return refused(desk, Refusal::Reply);
-    }
-    if target == clock {
-        return Taken {
-            desk,
-            answer: Answered::Reached {
-                clock,
-                due: 0,
-                words: 0,
-            },
-        };
-    }
-    let boards = desk.boards;
-    move_on(desk, reached(boards, desk.count, clock, target), reply)
-}
-
-// Take a message: the call that its kind names.
+// Take a message: the call that its kind names. Of a step it answers what the step reached.
 #[tactic(auto, using(crate::proofs::Taking::disordered), unfolding(rules::specs::Calls::message_call))]
-pub fn take(desk: Desk, message: Message, reply: &mut [u32]) -> Taken
-    ensures { taken result reply.new ≡ message_call desk message reply.old }
+pub fn take(desk: &mut Desk, message: Message, reply: &mut [u32]) -> Result<Option<Steps>, Refusal>
+    ensures { message_outcome result desk.new reply.new ≡ message_call desk.old message reply.old }
 {
-    if order::in_disorder(desk) {
-        return refused(desk, Refusal::Disorder);
+    in_order(desk)?;
+    match Kind::try_from(message.kind)? {
+        Kind::Board => load_in_order(desk, message.board())?,
+        Kind::Request => request_in_order(desk, message.byte, message.first, message.second)?,
+        Kind::Open => open_in_order(desk)?,
+        Kind::Clock => return Ok(Some(step_in_order(desk, message.first, reply)?)),
     }
-    let kind = message.kind;
-    match kind {
-        1 => load_in_order(
-            desk,
-            Board {
-                mask: message.byte,
-                window: message.first,
-                slide: message.second,
-                k: message.third,
-            },
-        ),
-        2 => request_in_order(desk, message.byte, message.first, message.second),
-        3 => open_in_order(desk),
-        4 => step_in_order(desk, message.first, reply),
-        0 | 5..=4294967295 => refused(desk, Refusal::Kind),
-    }
+    Ok(None)
 }

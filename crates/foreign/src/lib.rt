@@ -5,7 +5,7 @@ ghost use Rattle.std.specs.Prelude.{◌≡◌};
 ghost use Rattle.rules.specs.Replies.{answered};
 ghost use Rattle.foreign.specs.Foreign.{numbers_call, replied, Left};
 
-use rules::{Answered, Desk, Message};
+use rules::{Desk, Message, Refusal, Steps};
 
 // The refusal is 0 where the message was accepted; the others are 0 but after an accepted step.
 #[repr(C)]
@@ -17,63 +17,26 @@ pub struct Replied {
     pub words: u32,
 }
 
-#[derive(Clone, Copy)]
-struct Given {
-    desk: Desk,
-    replied: Replied,
-}
+// An answer as numbers.
+impl From<Result<Option<Steps>, Refusal>> for Replied {
+    ghost from_gives = { λ answer numbers. numbers ≡ replied (answered answer) };
 
-fn as_numbers(answer: Answered) -> Replied
-    ensures { result ≡ replied (answered answer) }
-{
-    match answer {
-        Answered::Accepted => Replied {
-            refusal: 0,
+    fn from(answer: Result<Option<Steps>, Refusal>) -> Replied {
+        let steps = Steps {
             clock: 0,
             due: 0,
             words: 0,
-        },
-        Answered::Reached { clock, due, words } => Replied {
-            refusal: 0,
-            clock,
-            due,
-            words,
-        },
-        Answered::Refused(refusal) => Replied {
-            refusal: rules::number(refusal),
-            clock: 0,
-            due: 0,
-            words: 0,
-        },
-    }
-}
-
-// All but the reference, so that the function over it only copies, calls and stores.
-fn take_from(
-    desk: Desk,
-    kind: u32,
-    byte: u32,
-    first: u32,
-    second: u32,
-    third: u32,
-    reply: &mut [u32],
-) -> Given
-    ensures { Left (numbers_call desk kind byte first second third reply.old) result.replied result.desk reply.new }
-{
-    let message = Message {
-        kind,
-        byte,
-        first,
-        second,
-        third,
-    };
-    let taken = desk::take(desk, message, reply);
-    let answer = taken.answer;
-    let replied = as_numbers(answer);
-    let next = taken.desk;
-    Given {
-        desk: next,
-        replied,
+        };
+        let (refusal, steps) = match answer {
+            Ok(reached) => (0, reached.unwrap_or(steps)),
+            Err(refusal) => (u32::from(refusal), steps),
+        };
+        Replied {
+            refusal,
+            clock: steps.clock,
+            due: steps.due,
+            words: steps.words,
+        }
     }
 }
 
@@ -89,8 +52,12 @@ pub fn desk_take(
 ) -> Replied
     ensures { Left (numbers_call desk.old kind byte first second third reply.old) result desk.new reply.new }
 {
-    let stood = *desk;
-    let given = take_from(stood, kind, byte, first, second, third, reply);
-    *desk = given.desk;
-    given.replied
+    let message = Message {
+        kind,
+        byte,
+        first,
+        second,
+        third,
+    };
+    Replied::from(desk::take(desk, message, reply))
 }

@@ -4,18 +4,21 @@ use mathlib.Core.List.{List}
 use Prim.Native.Nat.{ℕ, ◌<◌}
 use native.Mathlib.Omega.{arith}
 use Rattle.rules.specs.Calls.{StepOutcome, refusal, step_call}
+use Rattle.std.specs.Prelude.{Result}
+use Rattle.rules.specs.Replies.{replied}
 use Rattle.rules.specs.declared.Desk.{Desk}
+use Rattle.rules.specs.declared.Refusal.{Refusal}
+use Rattle.rules.specs.declared.Steps.{Steps}
 use Rattle.rules.specs.declared.Time.{Time}
 use Rattle.rules.proofs.Refusing.{step_stood}
 use Rattle.desk.specs.Outcomes.{step_outcome}
-use Rattle.desk.specs.declared.Moved.{Moved}
 use Rattle.lent.specs.Lent.{with_time}
 
--- t and t' are the lent time before and after the call
-pub refused_untouched : (d : Desk) (t t' : Time) (target : ℕ) (words words' : List ℕ) (r : Moved)
-    → step_outcome r words' ≡ step_call (with_time d t) target words → t' ≡ r.desk.time → 0 < refusal (step_outcome r words').reply
-    → (t' ≡ t) × (r.desk ≡ with_time d t) × (words' ≡ words)
-refused_untouched d t t' target words words' r promised left denied =
+-- t and d are the lent time and desk before the call, t' and d' after it
+pub refused_untouched : (d d' : Desk) (t t' : Time) (target : ℕ) (words words' : List ℕ) (r : Result Steps Refusal)
+    → step_outcome r d' words' ≡ step_call (with_time d t) target words → t' ≡ d'.time → 0 < refusal (replied r)
+    → (t' ≡ t) × (d' ≡ with_time d t) × (words' ≡ words)
+refused_untouched d d' t t' target words words' r promised left denied =
     let h : 0 < refusal (step_call (with_time d t) target words).reply = omega (arith, denied, ap (λ (o : StepOutcome). refusal o.reply) promised) in
     let e = promised ∙ step_stood (with_time d t) target words h in
     (left ∙ ap (λ (o : StepOutcome). o.desk.time) e, ap (λ (o : StepOutcome). o.desk) e, ap (λ (o : StepOutcome). o.slice) e)

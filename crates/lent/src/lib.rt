@@ -6,24 +6,19 @@ ghost use Rattle.rules.specs.Calls.{step_call};
 ghost use Rattle.desk.specs.Outcomes.{step_outcome};
 ghost use Rattle.lent.specs.Lent.{with_time};
 
-use desk::Moved;
-use rules::{Desk, Time};
+use rules::{Desk, Refusal, Steps, Time};
 
-// All but the reference, so that the function over it only copies, calls and stores.
-fn step_from(time: Time, desk: Desk, target: u32, reply: &mut [u32]) -> Moved
-    ensures { step_outcome result reply.new ≡ step_call (with_time desk time) target reply.old }
+// The clock and phase are altered where they stand, and the rest of the desk where it stands: its own clock and phase are overwritten by those lent.
+pub fn step_lent(
+    time: &mut Time,
+    desk: &mut Desk,
+    target: u32,
+    reply: &mut [u32],
+) -> Result<Steps, Refusal>
+    ensures { (step_outcome result desk.new reply.new ≡ step_call (with_time desk.old time.old) target reply.old) × (time.new ≡ desk.new.time) }
 {
-    let mut at = desk;
-    at.time = time;
-    desk::step(at, target, reply)
-}
-
-// The stepping call on a lent clock and phase: they are altered where they stand, the rest of the desk goes in by value and comes back.
-pub fn step_lent(time: &mut Time, desk: Desk, target: u32, reply: &mut [u32]) -> Moved
-    ensures { (step_outcome result reply.new ≡ step_call (with_time desk time.old) target reply.old) × (time.new ≡ result.desk.time) }
-{
-    let now = *time;
-    let moved = step_from(now, desk, target, reply);
-    *time = moved.desk.time;
-    moved
+    desk.time = *time;
+    let answer = desk::step(desk, target, reply);
+    *time = desk.time;
+    answer
 }

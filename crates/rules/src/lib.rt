@@ -3,6 +3,7 @@
 
 ghost use Rattle.std.specs.Prelude.{◌≡◌};
 ghost use Rattle.rules.specs.Desk.{names, need, board_fits, request_fits, clock_fits, loaded, listed, is_open};
+ghost use Rattle.rules.specs.Messages.{board_of};
 ghost use Rattle.rules.specs.Moments.{is_moment, moment, upto, in_window};
 ghost use Rattle.rules.specs.Cells.{cells};
 ghost use Rattle.rules.specs.Replies.{number, kind_of};
@@ -206,6 +207,20 @@ impl Board {
         ensures { result ≡ in_window self at e }
     {
         self.names(e.topic) && e.tick < at && at as usize <= e.tick as usize + self.window as usize
+    }
+}
+
+impl Message {
+    // Mask, window, slide and k of a board message.
+    pub fn board(self) -> Board
+        ensures { result ≡ board_of self }
+    {
+        Board {
+            mask: self.byte,
+            window: self.first,
+            slide: self.second,
+            k: self.third,
+        }
     }
 }
 

@@ -16,11 +16,11 @@ onward d c cs p q r = (ap₂ (λ s ss. s ∷ ss) p (r.0 ∙ ap (λ d. replies d 
 
 pub program_runs : {d e : Desk} {cs : List Call} {ss : List Said} → Program d cs ss e → (ss ≡ replies d cs) × (e ≡ after d cs)
 program_runs ends = (refl, refl)
-program_runs (loads {d} {b} {cs} r p q) = onward d (load b) cs (ap (λ (o : Outcome Unit). asked o.reply) p) (ap (λ (o : Outcome Unit). o.desk) p) (program_runs q)
-program_runs (opens {d} {cs} r p q) = onward d opening cs (ap (λ (o : Outcome Unit). asked o.reply) p) (ap (λ (o : Outcome Unit). o.desk) p) (program_runs q)
-program_runs (requests {d} {topic} {id} {score} {cs} r p q) =
+program_runs (loads {d} {b} {cs} r exit p q) = onward d (load b) cs (ap (λ (o : Outcome Unit). asked o.reply) p) (ap (λ (o : Outcome Unit). o.desk) p) (program_runs q)
+program_runs (opens {d} {cs} r exit p q) = onward d opening cs (ap (λ (o : Outcome Unit). asked o.reply) p) (ap (λ (o : Outcome Unit). o.desk) p) (program_runs q)
+program_runs (requests {d} {topic} {id} {score} {cs} r exit p q) =
     onward d (request topic id score) cs (ap (λ (o : Outcome Unit). asked o.reply) p) (ap (λ (o : Outcome Unit). o.desk) p) (program_runs q)
-program_runs (steps {d} {target} {slice} {cs} r exit p q) =
+program_runs (steps {d} {target} {slice} {cs} r exit words p q) =
     onward d (step target slice) cs (ap (λ (o : StepOutcome). stepped o.reply o.slice) p) (ap (λ (o : StepOutcome). o.desk) p) (program_runs q)
 program_runs (measures {d} {cs} r p q) = onward d measure cs (ap measured p) refl (program_runs q)
 program_runs (places {d} {at} {cs} r p q) = onward d (place at) cs (ap found p) refl (program_runs q)

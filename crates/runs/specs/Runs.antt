@@ -1,10 +1,11 @@
 -- A run: any list of calls, early, late, out of range, refused ones included, and bytes that only the reader sees.
 use Rattle.std.specs.Prelude.{List, [], ◌∷◌, ℕ}
-use Rattle.rules.specs.Calls.{Reply, Steps, reader_call, length_call, place_call, board_call, open_call, request_call, step_call}
+use Rattle.rules.specs.Calls.{Reply, reader_call, length_call, place_call, board_call, open_call, request_call, step_call}
 use Rattle.rules.specs.declared.Board.{Board}
 use Rattle.rules.specs.declared.Entry.{Entry}
 use Rattle.rules.specs.declared.Message.{Message}
 use Rattle.rules.specs.declared.Desk.{Desk}
+use Rattle.rules.specs.declared.Steps.{Steps}
 
 pub data Call : Type 0 where
   -- a board; open; a request's topic, id and score; a step's target and the slice lent to it

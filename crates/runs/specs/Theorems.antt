@@ -6,10 +6,11 @@ use Rattle.rules.specs.Desk.{needs, loaded, listed, fresh}
 use Rattle.rules.specs.Moments.{Moment, Accepted, better, Answer, answer}
 use Rattle.rules.specs.SharedList.{OnList}
 use Rattle.rules.specs.Refusals.{InOrder}
-use Rattle.rules.specs.Calls.{Steps, refusal}
+use Rattle.rules.specs.Calls.{refusal}
 use Rattle.rules.specs.Calls.Reply.{refused, accepted}
 use Rattle.rules.specs.declared.Board.{Board}
 use Rattle.rules.specs.declared.Desk.{Desk}
+use Rattle.rules.specs.declared.Steps.{Steps}
 use Rattle.runs.specs.Runs.{Call, Said, said, replies, after}
 use Rattle.runs.specs.Runs.Call.{load, opening, request, step, measure, place, read}
 use Rattle.runs.specs.Runs.Said.{asked, stepped, measured, found, heard}
