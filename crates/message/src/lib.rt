@@ -6,11 +6,11 @@ ghost use Rattle.std.specs.Prelude.{◌≡◌, ◌+◌, ◌-◌, ◌≤◌, leng
 ghost use Rattle.lists.specs.Views.{all};
 ghost use Rattle.rules.specs.Calls.{reader_call, writer_call, placed_at};
 ghost use Rattle.rules.specs.Messages.{mark, same_bytes, number_at, places, is_zero, zeros_stand, message, own, digits, encoded, fields_fit, rest};
-ghost use Rattle.rules.specs.Replies.{read as read_of};
+ghost use Rattle.rules.specs.Replies.{replied};
 ghost use Rattle.message.specs.Outcomes.{wrote};
 ghost use Rattle.message.specs.Pieces.{front_bytes, field_bytes};
 
-use rules::{Asked, Board, Message, Read, Refusal};
+use rules::{Board, Kind, Message, Refusal};
 
 pub const SIZE: usize = 20;
 
@@ -25,32 +25,29 @@ pub fn mark() -> [u8; 3]
 
 // The message at the front of the bytes, or the first refusal of 1 to 6 that is given.
 #[tactic(auto, using(crate::proofs::Numbers::kind_byte), unfolding(rules::specs::Calls::reader_call))]
-pub fn read(bytes: &[u8]) -> Read
-    ensures { read_of result ≡ reader_call bytes.now }
+pub fn read(bytes: &[u8]) -> Result<Message, Refusal>
+    ensures { replied result ≡ reader_call bytes.now }
 {
     if bytes.len() < SIZE {
-        return Read::Refused(Refusal::Short);
+        return Err(Refusal::Short);
     }
     let mark = mark();
     if !same(&bytes[..3], &mark) {
-        return Read::Refused(Refusal::Mark);
+        return Err(Refusal::Mark);
     }
     if number(bytes, 3, 2) != VERSION {
-        return Read::Refused(Refusal::Version);
+        return Err(Refusal::Version);
     }
-    let kind = bytes[5];
-    match kind {
-        1..=4 => {}
-        0 | 5..=255 => return Read::Refused(Refusal::Kind),
-    }
-    if !zeros_stand(bytes, kind) {
-        return Read::Refused(Refusal::Nonzero);
+    Kind::try_from(u32::from(bytes[5]))?;
+    if !zeros_stand(bytes, bytes[5]) {
+        return Err(Refusal::Nonzero);
     }
     let message = fields(bytes);
-    if !fields_fit(message) {
-        return Read::Refused(Refusal::Range);
+    if fields_fit(message) {
+        Ok(message)
+    } else {
+        Err(Refusal::Range)
     }
-    Read::Message(message)
 }
 
 // What follows the twentieth byte, as a part of the same bytes.
@@ -179,12 +176,13 @@ fn fields_fit(fields: Message) -> bool
 {
     let kind = fields.kind;
     match kind {
-        1 => rules::board_fits(Board {
+        1 => Board {
             mask: fields.byte,
             window: fields.first,
             slide: fields.second,
             k: fields.third,
-        }),
+        }
+        .fits(),
         2 => rules::request_fits(fields.byte, fields.second),
         3 => true,
         _ => rules::clock_fits(fields.first),
@@ -193,25 +191,21 @@ fn fields_fit(fields: Message) -> bool
 
 // A message's 20 bytes into the slice from a place on, or the first refusal of 3, 4, 6 and 14 that is given: then no byte is touched.
 #[tactic(auto, unfolding(rules::specs::Calls::writer_call))]
-pub fn write(version: u32, message: Message, bytes: &mut [u8], at: usize) -> Asked
+pub fn write(version: u32, message: Message, bytes: &mut [u8], at: usize) -> Result<(), Refusal>
     ensures { wrote result bytes.new ≡ writer_call version message bytes.old at }
 {
     if version != VERSION {
-        return Asked::Refused(Refusal::Version);
+        return Err(Refusal::Version);
     }
-    let kind = message.kind;
-    match kind {
-        1..=4 => {}
-        0 | 5..=4294967295 => return Asked::Refused(Refusal::Kind),
-    }
+    Kind::try_from(message.kind)?;
     if !fields_fit(message) {
-        return Asked::Refused(Refusal::Range);
+        return Err(Refusal::Range);
     }
-    if rules::less(bytes.len(), at) < SIZE {
-        return Asked::Refused(Refusal::Room);
+    if bytes.len().saturating_sub(at) < SIZE {
+        return Err(Refusal::Room);
     }
     encode(version, message, bytes, at);
-    Asked::Accepted
+    Ok(())
 }
 
 // The message's bytes, from a place on.
