@@ -1,72 +1,35 @@
 // 99: whether a desk's value is in disorder, whatever numbers stand in its fields.
 #![tactic(auto)]
 
-ghost use Rattle.std.specs.Prelude.{◌≡◌, true, ◌&&◌, ◌+◌, ◌≤◌, leb, take};
+ghost use Rattle.std.specs.Prelude.{◌≡◌, ◌&&◌, ◌+◌, ◌^◌, ◌-◌, leb, min};
 ghost use Rattle.lists.specs.Views.{all};
 ghost use Rattle.rules.specs.Desk.{board_fits, need as need_of, needs, loaded};
-ghost use Rattle.rules.specs.Refusals.{disorder, entry_fits};
-ghost use Rattle.order.specs.Standing.{heads};
+ghost use Rattle.rules.specs.Refusals.{disorder, entry_fits, falls};
 
-use rules::{Board, Desk, Entry, Time};
+use rules::{Board, Desk, Entry};
 
-// Whether all boards are in their ranges.
-fn boards_fit(boards: [Board; 32], count: usize) -> bool
-    requires { count ≤ 32 }
-    ensures { result ≡ all board_fits (take count boards) }
-{
-    let mut i: usize = 0;
-    while i < count {
-        let board = boards[i];
-        if rules::board_fits(board) {
-            i += 1;
-        } else {
-            return false;
-        }
-    }
-    true
-}
+// The most boards that a desk has, and the most that their needs come to.
+const BOARDS: usize = 32;
 
+const PLACES: usize = 1024;
+
+// The sum of needs. Boards that do not fit may have any need: a sum past the largest number stays there, and is too much anyway.
 #[tactic(auto, unfolding(rules::specs::Desk::needs))]
-fn sum_of_needs(boards: [Board; 32], count: usize) -> usize
-    requires { (count ≤ 32) × (all board_fits (take count boards) ≡ true) }
-    ensures { result ≡ needs (take count boards) }
+fn sum_of_needs(boards: &[Board]) -> usize
+    ensures { result ≡ min (needs boards.now) (2 ^ 64 - 1) }
 {
     let mut sum: usize = 0;
-    let mut i: usize = 0;
-    while i < count {
-        let board = boards[i];
-        sum += rules::need(board);
-        i += 1;
+    for board in boards {
+        sum = sum.saturating_add(board.need());
     }
     sum
 }
 
 // Whether the desk has at most 32 boards, and the sum of needs stays at most 1,024 with this board's.
-#[tactic(auto, unfolding(rules::specs::Desk::needs))]
-pub fn fits_beside(desk: Desk, board: Board) -> bool
-    ensures { result ≡ (leb desk.count 32 && leb (need_of board + needs (loaded desk)) 1024) }
+pub fn fits_beside(desk: &Desk, board: Board) -> bool
+    ensures { result ≡ (leb desk.now.count 32 && leb (need_of board + needs (loaded desk.now)) 1024) }
 {
-    let boards = desk.boards;
-    let count = desk.count;
-    if 32 < count {
-        return false;
-    }
-    let own = rules::need(board);
-    if 1024 < own {
-        return false;
-    }
-    let mut left: usize = 1024 - own;
-    let mut i: usize = 0;
-    while i < count {
-        let other = boards[i];
-        let need = rules::need(other);
-        if left < need {
-            return false;
-        }
-        left -= need;
-        i += 1;
-    }
-    true
+    desk.count <= BOARDS && board.need().saturating_add(sum_of_needs(desk.loaded())) <= PLACES
 }
 
 // Whether an entry's fields are in range, and its tick not above the clock.
@@ -74,67 +37,43 @@ pub fn fits_beside(desk: Desk, board: Board) -> bool
 fn entry_fits(clock: u32, e: Entry) -> bool
     ensures { result ≡ entry_fits clock e }
 {
-    if rules::request_fits(e.topic, e.score) {
-        return e.tick <= clock;
-    }
-    false
+    rules::request_fits(e.topic, e.score) && e.tick <= clock
 }
 
-// Whether all that document 01 asks of a desk before its entries is in order.
-#[tactic(auto, unfolding(crate::specs::Standing::heads))]
-fn heads_stand(time: Time, boards: [Board; 32], count: usize, len: usize) -> bool
-    ensures { result ≡ heads time (take count boards) count len }
+// Whether all boards are in their ranges.
+fn boards_fit(boards: &[Board]) -> bool
+    ensures { result ≡ all board_fits boards.now }
 {
-    if 32 < count {
-        return false;
-    }
-    if 1 < time.phase {
-        return false;
-    }
-    if 1000000000 < time.clock {
-        return false;
-    }
-    if boards_fit(boards, count) {
-        let sum = sum_of_needs(boards, count);
-        if 1024 < sum {
-            return false;
-        }
-        if sum < len {
-            return false;
-        }
-        if time.phase == 1 {
-            return true;
-        }
-        return len == 0;
-    }
-    false
+    boards.iter().all(|board| board.fits())
 }
 
-// The entries stand where all fit and none has a score above the one before it; the limit is before the first.
-#[tactic(auto, using(crate::proofs::Places::in_disorder, std::proofs::lemmas::Grind::common_steps))]
-pub fn in_disorder(desk: Desk) -> bool
-    ensures { result ≡ disorder desk }
+// Whether all entries fit.
+fn entries_fit(clock: u32, entries: &[Entry]) -> bool
+    ensures { result ≡ all (entry_fits clock) entries.now }
 {
-    let time = desk.time;
-    let boards = desk.boards;
-    let len = desk.len;
-    if heads_stand(time, boards, desk.count, len) {
-        let clock = time.clock;
-        let mut last: u32 = 1000000000;
-        let mut i: usize = 0;
-        while i < len {
-            let e = desk.entries[i];
-            if entry_fits(clock, e) {
-                if last < e.score {
-                    return true;
-                }
-                last = e.score;
-                i += 1;
-            } else {
-                return true;
-            }
-        }
-        return false;
-    }
-    true
+    entries.iter().all(|e| entry_fits(clock, *e))
+}
+
+// Whether no entry has a score above the one before it.
+fn falls(entries: &[Entry]) -> bool
+    ensures { result ≡ falls entries.now }
+{
+    entries.is_sorted_by(|e, next| next.score <= e.score)
+}
+
+// Whether any of the rules of document 01 for a desk's value is broken.
+#[tactic(auto, unfolding(rules::specs::Refusals::disorder))]
+pub fn in_disorder(desk: &Desk) -> bool
+    ensures { result ≡ disorder desk.now }
+{
+    let needs = sum_of_needs(desk.loaded());
+    BOARDS < desk.count
+        || PLACES < needs
+        || needs < desk.len
+        || (!desk.is_open() && 0 < desk.len)
+        || !rules::clock_fits(desk.time.clock)
+        || 1 < desk.time.phase
+        || !boards_fit(desk.loaded())
+        || !entries_fit(desk.time.clock, desk.listed())
+        || !falls(desk.listed())
 }
