@@ -38,11 +38,11 @@ fn is_holdable(boards: [Board; 32], count: usize, len: usize) -> bool
     let mut b: usize = 0;
     while b < count {
         let board = boards[b];
-        let more_cells = rules::cells(board);
+        let more_cells = board.cells();
         if 1024 - cells < more_cells {
             return false;
         }
-        let more_needs = rules::need(board);
+        let more_needs = board.need();
         if 1024 - needs < more_needs {
             return false;
         }
@@ -71,7 +71,7 @@ fn edge(board: Board, first: usize, views: usize, full: usize) -> usize
     if full < views {
         let at = moment(board, first, views, full);
         if at <= 1000000000 {
-            return rules::less(at, board.window as usize);
+            return at.saturating_sub(board.window as usize);
         }
     }
     4294967296
@@ -104,7 +104,7 @@ fn lower(left: &mut [u32; 1024], board: Board, first: usize, views: usize, full:
     ensures { (length left.new ≡ 1024) × (left.new ≡ from full (on_front (λ q. q - 1) (holding board first views tick - full)) left.old) }
 {
     let slide = board.slide as usize;
-    let last = rules::least(tick as usize + board.window as usize, 1000000000);
+    let last = (tick as usize + board.window as usize).min(1000000000);
     let mut view = full;
     let mut at = moment(board, first, views, full);
     while view < views {
@@ -176,8 +176,8 @@ fn mark(
     requires { (length ticks.now ≡ 1025) × (length bits.now ≡ 1025) × (length left.old ≡ 1024) × (length marks.old ≡ 1025) × (total ≤ 1025) × (cells board ≤ 1024) }
     ensures { (length left.new ≡ 1024) × (length marks.new ≡ 1025) × (marks.new ≡ noted (views_from board (upto board clock) (replicate (cells board) board.k)) (spots (take total ticks.now) (take total bits.now)) marks.old) }
 {
-    let views = rules::cells(board);
-    let first = rules::moments_upto(board, clock as usize);
+    let views = board.cells();
+    let first = board.moments_upto(clock as usize);
     let topics = named(board);
     fill(left, views, board.k);
     let mut full = first_left(left, 0, views);
@@ -324,8 +324,8 @@ fn walk(desk: Desk, clock: u32, new: Entry, waiting: usize) -> Desk
 
 // The list after a step to this clock.
 #[tactic(auto, unfolding(crate::specs::Walk::thinned_to))]
-pub fn thinned(desk: Desk, clock: u32) -> Desk
-    ensures { result ≡ thinned_to desk clock }
+pub fn thin(desk: &mut Desk, clock: u32)
+    ensures { desk.new ≡ thinned_to desk.old clock }
 {
     let none = Entry {
         id: 0,
@@ -333,13 +333,15 @@ pub fn thinned(desk: Desk, clock: u32) -> Desk
         tick: 0,
         topic: 0,
     };
-    walk(desk, clock, none, 0)
+    let stood = *desk;
+    *desk = walk(stood, clock, none, 0);
 }
 
 // The list after a request at the desk's clock.
 #[tactic(auto, unfolding(crate::specs::Walk::with_entry))]
-pub fn with_entry(desk: Desk, e: Entry) -> Desk
-    ensures { result ≡ with_entry desk e }
+pub fn add(desk: &mut Desk, e: Entry)
+    ensures { desk.new ≡ with_entry desk.old e }
 {
-    walk(desk, desk.time.clock, e, 1)
+    let stood = *desk;
+    *desk = walk(stood, stood.time.clock, e, 1);
 }

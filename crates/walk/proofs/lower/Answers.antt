@@ -10,7 +10,7 @@ loop-view-init c = record { done = c.requires.2; all_views = c.requires.0; momen
 
 pub returns-then-last-at : goal.returns-then-last-at
 unfolding holding upto
-returns-then-last-at c = (c.loop-view.invariant.all_views, rw c.least-last.ensures at (lowered c.loop-view.invariant (inr c.if-last-at.true)))
+returns-then-last-at c = (c.loop-view.invariant.all_views, rw c.min-last.ensures at (lowered c.loop-view.invariant (inr c.if-last-at.true)))
 
 pub loop-view-preserved : goal.loop-view-preserved
 loop-view-preserved c =
@@ -18,4 +18,4 @@ loop-view-preserved c =
 
 pub returns : goal.returns
 unfolding holding upto
-returns c = (c.loop-view.invariant.all_views, rw c.least-last.ensures at (lowered c.loop-view.invariant (inl c.loop-view-test.false)))
+returns c = (c.loop-view.invariant.all_views, rw c.min-last.ensures at (lowered c.loop-view.invariant (inl c.loop-view-test.false)))
