@@ -1,7 +1,7 @@
 // The desk and its calls. A desk is lent and altered where it stands; a refused call leaves it, and the reply, as they stood.
 #![tactic(auto)]
 
-ghost use Rattle.std.specs.Prelude.{◌≡◌, false, cond, length, Ok, Err};
+ghost use Rattle.std.specs.Prelude.{◌≡◌, cond, length, Ok, Err};
 ghost use Rattle.rules.specs.Desk.{fresh as fresh_desk};
 ghost use Rattle.rules.specs.Moments.{reached as reached_by};
 ghost use Rattle.rules.specs.Calls.{length_call, place_call, board_call, open_call, request_call, step_call, message_call};
@@ -55,15 +55,6 @@ pub fn load(desk: &mut Desk, board: Board) -> Result<(), Refusal>
     ensures { outcome result desk.new ≡ board_call desk.old board }
 {
     in_order(desk)?;
-    load_in_order(desk, board)
-}
-
-// The calls on a desk in order end in `_in_order`: a message asks for disorder once.
-#[tactic(auto, unfolding(rules::specs::Calls::board_call))]
-fn load_in_order(desk: &mut Desk, board: Board) -> Result<(), Refusal>
-    requires { disorder desk.old ≡ false }
-    ensures { outcome result desk.new ≡ board_call desk.old board }
-{
     if !board.fits() {
         return Err(Refusal::Range);
     }
@@ -87,14 +78,6 @@ pub fn open(desk: &mut Desk) -> Result<(), Refusal>
     ensures { outcome result desk.new ≡ open_call desk.old }
 {
     in_order(desk)?;
-    open_in_order(desk)
-}
-
-#[tactic(auto, unfolding(rules::specs::Calls::open_call))]
-fn open_in_order(desk: &mut Desk) -> Result<(), Refusal>
-    requires { disorder desk.old ≡ false }
-    ensures { outcome result desk.new ≡ open_call desk.old }
-{
     if desk.is_open() {
         return Err(Refusal::Phase);
     }
@@ -106,19 +89,11 @@ fn open_in_order(desk: &mut Desk) -> Result<(), Refusal>
 }
 
 // A request at the desk's clock. It answers only that it was accepted.
-#[tactic(auto, unfolding(rules::specs::Calls::request_call))]
+#[tactic(auto, using(rules::proofs::Refusing::in_order, crate::proofs::Keeping::entry_named), unfolding(rules::specs::Calls::request_call))]
 pub fn request(desk: &mut Desk, topic: u32, id: u32, score: u32) -> Result<(), Refusal>
     ensures { outcome result desk.new ≡ request_call desk.old topic id score }
 {
     in_order(desk)?;
-    request_in_order(desk, topic, id, score)
-}
-
-#[tactic(auto, using(rules::proofs::Refusing::in_order, crate::proofs::Keeping::entry_named), unfolding(rules::specs::Calls::request_call))]
-fn request_in_order(desk: &mut Desk, topic: u32, id: u32, score: u32) -> Result<(), Refusal>
-    requires { disorder desk.old ≡ false }
-    ensures { outcome result desk.new ≡ request_call desk.old topic id score }
-{
     if !rules::request_fits(topic, score) {
         return Err(Refusal::Range);
     }
@@ -136,19 +111,11 @@ fn request_in_order(desk: &mut Desk, topic: u32, id: u32, score: u32) -> Result<
 }
 
 // Step to the earliest moment above the clock and not above the target, or to the target.
-#[tactic(auto, unfolding(rules::specs::Calls::step_call))]
+#[tactic(auto, using(rules::proofs::Refusing::in_order, crate::proofs::Keeping::small, crate::proofs::Keeping::moves, crate::proofs::Keeping::not_back, std::proofs::lemmas::Bool::Decides::nat_tests), unfolding(rules::specs::Calls::step_call))]
 pub fn step(desk: &mut Desk, target: u32, reply: &mut [u32]) -> Result<Steps, Refusal>
     ensures { step_outcome result desk.new reply.new ≡ step_call desk.old target reply.old }
 {
     in_order(desk)?;
-    step_in_order(desk, target, reply)
-}
-
-#[tactic(auto, using(rules::proofs::Refusing::in_order, crate::proofs::Keeping::small, crate::proofs::Keeping::moves, crate::proofs::Keeping::not_back, std::proofs::lemmas::Bool::Decides::nat_tests), unfolding(rules::specs::Calls::step_call))]
-fn step_in_order(desk: &mut Desk, target: u32, reply: &mut [u32]) -> Result<Steps, Refusal>
-    requires { disorder desk.old ≡ false }
-    ensures { step_outcome result desk.new reply.new ≡ step_call desk.old target reply.old }
-{
     let clock = desk.time.clock;
     if !rules::clock_fits(target) {
         return Err(Refusal::Range);
@@ -220,16 +187,20 @@ pub fn place(desk: &Desk, at: usize) -> Result<Entry, Refusal>
 }
 
 // Take a message: the call that its kind names. Of a step it answers what the step reached.
-#[tactic(auto, using(crate::proofs::Taking::disordered), unfolding(rules::specs::Calls::message_call))]
+#[tactic(auto, unfolding(rules::specs::Calls::message_call))]
 pub fn take(desk: &mut Desk, message: Message, reply: &mut [u32]) -> Result<Option<Steps>, Refusal>
     ensures { message_outcome result desk.new reply.new ≡ message_call desk.old message reply.old }
 {
-    in_order(desk)?;
-    match Kind::try_from(message.kind)? {
-        Kind::Board => load_in_order(desk, message.board())?,
-        Kind::Request => request_in_order(desk, message.byte, message.first, message.second)?,
-        Kind::Open => open_in_order(desk)?,
-        Kind::Clock => return Ok(Some(step_in_order(desk, message.first, reply)?)),
+    match Kind::try_from(message.kind) {
+        Ok(Kind::Board) => load(desk, message.board())?,
+        Ok(Kind::Request) => request(desk, message.byte, message.first, message.second)?,
+        Ok(Kind::Open) => open(desk)?,
+        Ok(Kind::Clock) => return Ok(Some(step(desk, message.first, reply)?)),
+        // 99 comes before 4.
+        Err(refusal) => {
+            in_order(desk)?;
+            return Err(refusal);
+        }
     }
     Ok(None)
 }
