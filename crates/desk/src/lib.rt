@@ -18,24 +18,12 @@ use rules::{Board, Desk, Entry, Kind, Message, Refusal, Steps, Time};
 pub fn fresh() -> Desk
     ensures { result ≡ fresh_desk }
 {
-    let board = Board {
-        mask: 0,
-        window: 0,
-        slide: 0,
-        k: 0,
-    };
-    let entry = Entry {
-        id: 0,
-        score: 0,
-        tick: 0,
-        topic: 0,
-    };
     Desk {
         time: Time { clock: 0, phase: 0 },
         count: 0,
-        boards: [board; 32],
+        boards: [Board::default(); 32],
         len: 0,
-        entries: [entry; 1024],
+        entries: [Entry::default(); 1024],
     }
 }
 

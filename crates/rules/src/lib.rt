@@ -15,7 +15,7 @@ use std::fmt;
 pub const LIMIT: u32 = 1_000_000_000;
 
 #[repr(C)]
-#[derive(Clone, Copy)]
+#[derive(Clone, Copy, Default)]
 pub struct Board {
     pub mask: u32,
     pub window: u32,
@@ -25,7 +25,7 @@ pub struct Board {
 
 // A request on the shared list; its tick is the clock when it was accepted.
 #[repr(C)]
-#[derive(Clone, Copy)]
+#[derive(Clone, Copy, Default)]
 pub struct Entry {
     pub id: u32,
     pub score: u32,
