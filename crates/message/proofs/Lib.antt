@@ -1,10 +1,11 @@
-pub mod Answers
 pub mod Encoding
 pub mod Front
 pub mod Holding
-pub mod Loops
+pub mod Named
 pub mod Numbers
 pub mod Parts
 pub mod Placing
+pub mod Reading
 pub mod Standing
 pub mod Tight
+pub mod Writing

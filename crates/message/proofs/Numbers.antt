@@ -22,18 +22,18 @@ at_the_end (x ∷ xs) byte =
     let h : x * 256 ^ length (xs ++ (byte ∷ [])) ≡ x * 256 ^ length xs * 256 = rw (length-append, add-one, pow-suc, ← mul_assoc) in
     omega (arith, at_the_end xs byte)
 
+-- one byte more of a list, and of a number in a list
+pub taken_more : (bytes : List ℕ) (i : ℕ) → i < length bytes → big_endian (take (i + 1) bytes) ≡ big_endian (take i bytes) * 256 + get_or bytes i 0
+taken_more bytes i h = rw (add-one, take-suc bytes i 0) (at_the_end (take i bytes) (get_or bytes i 0))
+
 pub one_more : (bytes : List ℕ) (from size : ℕ) → from + size < length bytes → number_at bytes from (size + 1) ≡ number_at bytes from size * 256 + get_or bytes (from + size) 0
 one_more bytes from size h =
     let k : size < length (drop from bytes) = rw length-drop (omega arith) in
-    rw (add-one, take-suc (drop from bytes) size 0, get_or-drop) (at_the_end (take size (drop from bytes)) (get_or bytes (from + size) 0))
+    rw get_or-drop at (taken_more (drop from bytes) size k)
 
 pub one_byte : (bytes : List ℕ) (from : ℕ) → from < length bytes → number_at bytes from 1 ≡ get_or bytes from 0
 unfolding big_endian
 one_byte bytes from h = one_more bytes from 0 (omega arith) ∙ simp (add-zero, zero-add)
-
--- a message's kind is its byte 5
-pub kind_byte : (bytes : List ℕ) → 20 ≤ length bytes → number_at bytes 5 1 ≡ get_or bytes 5 0
-kind_byte bytes h = one_byte bytes 5 (omega arith)
 
 -- A number in `size` bytes is below 256 ^ size, and four bytes fit 32 bits.
 pub below_more : {n byte : ℕ} (size : ℕ) → n < 256 ^ size → byte < 256 → n * 256 + byte < 256 ^ (size + 1)
@@ -97,3 +97,9 @@ zero_number bytes from zero h = refl
 zero_number bytes from (suc n) h =
     rw (drop-cons bytes from 0 (omega arith), zero_number bytes (suc from) n (omega arith))
     (sym (zero_first (get_or bytes from 0) (number_at bytes (suc from) n) (length (take n (drop (suc from) bytes)))))
+
+-- Where all bytes from a place on are zero, the bytes that are taken from there are.
+pub zeros_taken : (bytes : List ℕ) (from size : ℕ) → from + size ≤ length bytes → all (is_zero bytes) (places from size) ≡ all (λ byte. eqb byte 0) (take size (drop from bytes))
+zeros_taken bytes from zero h = refl
+zeros_taken bytes from (suc n) h =
+    rw (drop-cons bytes from 0 (omega arith)) (ap (λ b. eqb (get_or bytes from 0) 0 && b) (zeros_taken bytes (suc from) n (omega arith)))

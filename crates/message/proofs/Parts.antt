@@ -1,7 +1,7 @@
 -- The table of the kinds. What is read of a message, and whether its zeros stand, depends on nothing but the numbers in its parts; what a kind does not have is 0.
 -- A law of one kind's parts is shown of the four rows (`each_row`).
 use mathlib.Core.Path.{◌≡◌, refl, sym, ap, ap₂, ◌∙◌}
-use mathlib.Core.List.{List, [], ◌∷◌, ◌++◌, append_assoc, append-nil}
+use mathlib.Core.List.{List, [], ◌∷◌, ◌++◌, append_assoc}
 use mathlib.Core.Bool.{Bool, true, false, cond, ◌&&◌}
 use Prim.Native.Nat.{ℕ, ◌+◌}
 use lib.Dec.{eqb}
@@ -26,7 +26,6 @@ use Rattle.rules.specs.Messages.{
   fields_fit,
 }
 use Rattle.rules.specs.declared.Message.{Message}
-use Rattle.message.specs.Pieces.{front_bytes, field_bytes}
 
 abbrev pub Each : (Part → Type 0) → List Part → Type 0
 Each P [] = Unit {0}
@@ -114,6 +113,9 @@ pub own_kind : (m : Message) → (own m).kind ≡ m.kind
 unfolding own layout
 own_kind m = each_row (λ ps. (filled ps (λ p. value_of p.holds m) (blank m.kind)).kind ≡ m.kind) refl refl refl refl m.kind
 
+pub message_kind : (bytes : List ℕ) → (message bytes).kind ≡ kind_at bytes
+message_kind bytes = ap (λ (f : Message). f.kind) (sym (message_own bytes)) ∙ own_kind (numbers bytes)
+
 -- the fields of a message that a kind has
 abbrev of_kind : ℕ → Message → Message
 of_kind kind m = filled (layout kind) (λ p. value_of p.holds m) (blank kind)
@@ -132,12 +134,13 @@ own_fits m =
     (λ e. rw (e, e))
     (λ e. by (eqb m.kind 2) (λ f. rw (e, f, e, f)) (λ f. by (eqb m.kind 3) (λ g. rw (e, f, g, e, f, g)) (λ g. rw (e, f, g, e, f, g))))
 
--- A message in bytes: the front, and behind it the parts.
+-- A message in bytes: mark, version and kind, and behind them the parts.
+abbrev pub front_bytes : ℕ → ℕ → List ℕ
+front_bytes version kind = mark ++ (digits 2 version ++ digits 1 kind)
+
 pub encoded_front : (version : ℕ) (m : Message) → encoded version m ≡ front_bytes version m.kind ++ laid (layout m.kind) m
 unfolding encoded
 encoded_front version m = ap (λ l. mark ++ l) (sym (append_assoc (digits 2 version) (digits 1 m.kind) (laid (layout m.kind) m)))
 
-pub encoded_own : (version : ℕ) (m : Message)
-    → front_bytes version (own m).kind ++ field_bytes (own m).byte (own m).first (own m).second (own m).third ≡ encoded version m
-unfolding laid layout
-encoded_own version m = rw (encoded_front version m, laid_own m, own_kind m, append-nil)
+pub encoded_own : (version : ℕ) (m : Message) → front_bytes version (own m).kind ++ laid (layout 1) (own m) ≡ encoded version m
+encoded_own version m = rw (encoded_front version m, laid_own m, own_kind m)

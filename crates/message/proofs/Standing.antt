@@ -20,11 +20,9 @@ use Rattle.rules.specs.declared.Message.{Message}
 use Rattle.rules.proofs.Fitting.{board_fits_lem}
 use Rattle.rules.proofs.Refusing.{None, none_given, Denied, Granted, judged_cases}
 use Rattle.message.specs.Encoding.{Bytes, Words}
-use Rattle.message.specs.Pieces.{front_bytes}
 use Rattle.message.proofs.Holding.{Reads, Fits, number_in, laid_length, laid_reads, reads_zeros, zeros_read, reads_laid, zero_numbers}
 use Rattle.message.proofs.Numbers.{number_part, digits_length, digits_of}
-use Rattle.message.proofs.Parts.{each_kind, layout_joined, filled_same, given_back, numbers, message_own, own_kind, own_fits, encoded_front}
-use Rattle.message.proofs.Placing.{front_length}
+use Rattle.message.proofs.Parts.{each_kind, layout_joined, filled_same, given_back, message_kind, own_fits, front_bytes, encoded_front}
 
 -- A message of this version stands at the front of the bytes, and its fields are in their ranges.
 pub record Stands (version : ℕ) (bytes : List ℕ) (m : Message) : Type 0 where
@@ -83,9 +81,6 @@ same_equal (x ∷ xs) (y ∷ ys) e =
     let t = (and-eq-true_iff (eqb x y) (same_bytes xs ys)).0 e in
     ap₂ (λ b l. b ∷ l) (eqb-true x y t.0) (same_equal xs ys t.1)
 
-message_kind : (bytes : List ℕ) → (message bytes).kind ≡ kind_at bytes
-message_kind bytes = ap (λ (f : Message). f.kind) (sym (message_own bytes)) ∙ own_kind (numbers bytes)
-
 message_reads : (bytes : List ℕ) → 20 ≤ length bytes → zeros_stand bytes (kind_at bytes) ≡ true → Reads bytes (message bytes) (layout (message bytes).kind)
 unfolding zeros_stand message
 message_reads bytes h z =
@@ -124,6 +119,12 @@ fields_fit_lem m w =
     (λ t. (omega arith, (omega arith, (omega arith, (omega arith, (omega arith, tt))))))
     (λ t. (omega arith, (omega arith, (w Holds.first, (omega arith, (omega arith, tt))))))
     m.kind
+
+front_length : (version kind : ℕ) → length (front_bytes version kind) ≡ 6
+front_length version kind =
+    let two = digits 2 version in
+    let one = digits 1 kind in
+    omega (arith, length-append mark (two ++ one), length-append two one, digits_length 2 version, digits_length 1 kind)
 
 pub encoded_length : (version : ℕ) (m : Message) → length (encoded version m) ≡ 20
 encoded_length version m =

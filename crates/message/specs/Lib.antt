@@ -1,3 +1,2 @@
 pub mod Encoding
 pub mod Outcomes
-pub mod Pieces

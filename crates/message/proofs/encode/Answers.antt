@@ -1,24 +1,20 @@
--- The fields stand right behind the front, and both together are the message in bytes.
-use Rattle.std.proofs.Common.{◌+◌, ◌++◌, ◌∙◌, List, ℕ, ap, arith}
-use Rattle.rules.specs.Calls.{placed_at}
-use Rattle.rules.specs.declared.Message.{Message}
-use Rattle.message.specs.Pieces.{front_bytes, field_bytes}
-use Rattle.message.proofs.Parts.{encoded_own}
-use Rattle.message.proofs.Placing.{front_length, put_behind}
+-- Each part that is copied in stands in the bytes, and together they are the row of the message's own fields.
+use Rattle.message.proofs.Writing.{own_kind_small, own_byte_small, row_encoded}
 use Rattle.message.proofs.encode.Goals as goal
-
--- what is put of a message's own fields
-abbrev pieces : ℕ → Message → List ℕ
-pieces version f = front_bytes version f.kind ++ field_bytes f.byte f.first f.second f.third
 
 pub returns : goal.returns
 returns c =
-    let a = c.args in
-    let f = c.own-own.result in
-    put_behind a.at (a.at + 6) 6 (front_bytes a.version f.kind) (field_bytes f.byte f.first f.second f.third) a.bytes.now
-    (front_length a.version f.kind)
-    (omega arith)
-    (omega arith)
-    c.put_fields.ensures
-    c.put_front.ensures
-    ∙ ap (λ l. placed_at a.at l a.bytes.now) (ap (pieces a.version) c.own-own.ensures ∙ encoded_own a.version a.message)
+    rw (
+      c.copy_from_slice.ensures.after,
+      c.mark.ensures,
+      c.copy_from_slice-2.ensures.after,
+      c.to_be_bytes.ensures,
+      c.copy_from_slice-3.ensures.after,
+      c.to_be_bytes-2.ensures,
+      c.copy_from_slice-4.ensures.after,
+      c.to_be_bytes-3.ensures,
+      c.copy_from_slice-5.ensures.after,
+      c.to_be_bytes-4.ensures,
+      c.own-own.ensures,
+    )
+    (row_encoded c.args.message (own_kind_small c.args.message c.args.kind c.requires.0) (own_byte_small c.args.message c.requires.1))

@@ -1,7 +1,7 @@
--- The loop's invariant: the value is the number in the `i` bytes read, and below 256 ^ i.
-use Rattle.std.proofs.Common.{◌≡◌, ◌<◌, ◌^◌}
-use Rattle.rules.specs.Messages.{number_at}
+-- The loop's invariant: the value is the number in the bytes read, and below 256 to the power of how many they are.
+use Rattle.std.proofs.Common.{◌≡◌, ◌<◌, ◌^◌, take}
+use Rattle.rules.specs.Messages.{big_endian}
 use Rattle.message.proofs.number.Given as goal
 
-abbrev pub invariant-loop-i : goal.invariant-loop-i
-invariant-loop-i l = record { below : l.value < 256 ^ l.i; same : l.value ≡ number_at l.bytes l.from l.i }
+abbrev pub invariant-loop-byte : goal.invariant-loop-byte
+invariant-loop-byte l = record { below : l.value < 256 ^ l.byte-index; same : l.value ≡ big_endian (take l.byte-index l.bytes) }
