@@ -16,23 +16,16 @@ pub struct Wrote {
     pub words: u32,
 }
 
-// The array comes by value: so it says that it has 32 boards, and a lent desk of another crate does not.
-#[tactic(auto, unfolding(rules::specs::Refusals::reply_need))]
-fn sum_of_needs(boards: [Board; 32], count: usize) -> usize
-    ensures { result ≡ reply_need (take count boards) }
-{
-    let mut need: usize = 0;
-    for board in &boards[..count.min(32)] {
-        need += 2 + 3 * board.k as usize;
-    }
-    need
-}
-
 // The words that a reply must have: 2 + 3k for each board, due or not.
+#[tactic(auto, unfolding(rules::specs::Refusals::reply_need))]
 pub fn reply_need(desk: &Desk) -> usize
     ensures { result ≡ reply_need (loaded desk.now) }
 {
-    sum_of_needs(desk.boards, desk.count)
+    let mut need: usize = 0;
+    for board in desk.loaded() {
+        need += 2 + 3 * board.k as usize;
+    }
+    need
 }
 
 // A board's block, and how many words it has: its number, how many entries it shows, and id, score and tick of each.
@@ -60,14 +53,15 @@ fn write_block(number: u32, board: Board, at: u32, listed: &[Entry], reply: &mut
 // Each due board's block is written into what remains of the reply.
 #[tactic(auto, unfolding(rules::specs::Calls::blocks))]
 fn write_due(desk: &Desk, at: u32, reply: &mut [u32]) -> Wrote
-    requires { (desk.now.count ≤ 32) × (desk.now.len ≤ 1024) × (reply_need (loaded desk.now) ≤ length reply.old) }
+    requires { reply_need (loaded desk.now) ≤ length reply.old }
     ensures { (result ≡ all_written desk.now at) × (reply.new ≡ written (blocks 0 (loaded desk.now) at (listed desk.now)) reply.old) }
 {
+    let listed = desk.listed();
     let mut due: u32 = 0;
     let mut next: usize = 0;
     for (number, board) in desk.loaded().iter().enumerate() {
         if board.is_moment(at) {
-            next += write_block(number as u32, *board, at, desk.listed(), &mut reply[next..]);
+            next += write_block(number as u32, *board, at, listed, &mut reply[next..]);
             due += 1;
         }
     }

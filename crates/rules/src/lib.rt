@@ -1,7 +1,7 @@
 // Document 01's values: what a desk has, what a message holds, what a call answers; and the leaf functions on one board.
 #![tactic(auto)]
 
-ghost use Rattle.std.specs.Prelude.{◌≡◌};
+ghost use Rattle.std.specs.Prelude.{◌≡◌, ◌≤◌, length};
 ghost use Rattle.rules.specs.Desk.{names, need, board_fits, request_fits, clock_fits, loaded, listed, is_open};
 ghost use Rattle.rules.specs.Messages.{board_of};
 ghost use Rattle.rules.specs.Moments.{is_moment, moment, upto, in_window};
@@ -227,14 +227,16 @@ impl Message {
 impl Desk {
     // The boards in their order; an array has no more than 32, whatever the count says.
     pub fn loaded(&self) -> &[Board]
-        ensures { result.now ≡ loaded self.now }
+        ensures boards { result.now ≡ loaded self.now }
+        ensures few { length result.now ≤ 32 }
     {
         &self.boards[..self.count.min(32)]
     }
 
     // The entries on the list, best first; likewise no more than 1,024.
     pub fn listed(&self) -> &[Entry]
-        ensures { result.now ≡ listed self.now }
+        ensures entries { result.now ≡ listed self.now }
+        ensures few { length result.now ≤ 1024 }
     {
         &self.entries[..self.len.min(1024)]
     }

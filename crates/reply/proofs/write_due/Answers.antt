@@ -1,5 +1,5 @@
 -- The turn's board, and those behind it: its block is written, or it is passed.
-use Rattle.std.proofs.Common.{◌≡◌, ◌≤◌, ◌+◌, true, false, length, drop, get_or, arith, add-one, drop_of_length-le, length-take, length-drop}
+use Rattle.std.proofs.Common.{◌≡◌, ◌+◌, true, false, length, drop, get_or, arith, add-one, drop_of_length-le, length-take, length-drop}
 use Rattle.rules.specs.Desk.{listed, no_board}
 use Rattle.rules.specs.Moments.{is_moment}
 use Rattle.rules.specs.Refusals.{reply_need}
@@ -25,8 +25,7 @@ overflow_cast-result c =
     let es = listed c.args.desk.now in
     let passed = drop_of_length-le boards {i = c.loop-number.number} c.loop-number-test.false in
     let done = full (rw (passed, blocks) at c.loop-number.invariant.filling) in
-    let few : length boards ≤ 32 = rw (c.loaded-board-items.ensures, length-take) (omega arith) in
-    let n = blocks_length 0 boards c.args.at es (simp length-take (omega arith)) in
+    let n = blocks_length 0 boards c.args.at es (rw (c.listed-listed.ensures.entries) at c.listed-listed.ensures.few) in
     omega (arith, done.0)
 
 pub loop-number-preserved : goal.loop-number-preserved
@@ -44,7 +43,7 @@ loop-number-preserved c =
       | then-is_moment w ↦
           let due : is_moment board at ≡ true = cc in
           let words = block i (shown_at board at es) in
-          let e = rw w.listed.ensures at w.write_block-next.ensures in
+          let e = rw c.listed-listed.ensures.entries at w.write_block-next.ensures in
           let long = block_length i board at es in
           let size : w.write_block-next.result ≡ length words = e.0 in
           record {
