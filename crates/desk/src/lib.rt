@@ -11,7 +11,7 @@ ghost use Rattle.reply.specs.Written.{blocks_into};
 ghost use Rattle.walk.specs.Walk.{thinned_to};
 ghost use Rattle.desk.specs.Outcomes.{outcome, step_outcome, moved_by, message_outcome};
 
-use rules::{Board, Desk, Entry, Kind, Message, Refusal, Steps, Time};
+use rules::{BOARDS, Board, Desk, Entry, Kind, Message, PLACES, Refusal, Steps, Time};
 
 // A loading desk with no board, at clock 0.
 #[tactic(auto, unfolding(rules::specs::Desk::fresh))]
@@ -21,9 +21,9 @@ pub fn fresh() -> Desk
     Desk {
         time: Time { clock: 0, phase: 0 },
         count: 0,
-        boards: [Board::default(); 32],
+        boards: [Board::default(); BOARDS],
         len: 0,
-        entries: [Entry::default(); 1024],
+        entries: [Entry::default(); PLACES],
     }
 }
 
@@ -49,7 +49,7 @@ pub fn load(desk: &mut Desk, board: Board) -> Result<(), Refusal>
     if desk.is_open() {
         return Err(Refusal::Phase);
     }
-    if 32 <= desk.count {
+    if BOARDS <= desk.count {
         return Err(Refusal::Boards);
     }
     if !order::fits_beside(desk, board) {

@@ -1,7 +1,8 @@
 // Document 01's values: what a desk has, what a message holds, what a call answers; and the leaf functions on one board.
 #![tactic(auto)]
 
-ghost use Rattle.std.specs.Prelude.{◌≡◌, ◌≤◌, length};
+ghost use Rattle.std.specs.Prelude.{◌≡◌, ◌≤◌, length, Some};
+ghost use Rattle.std.specs.Fmt.{decimal};
 ghost use Rattle.rules.specs.Desk.{names, need, board_fits, request_fits, clock_fits, loaded, listed, is_open};
 ghost use Rattle.rules.specs.Messages.{board_of};
 ghost use Rattle.rules.specs.Moments.{is_moment, moment, upto, in_window};
@@ -13,6 +14,11 @@ use std::fmt;
 
 // The last tick of the clock, and the highest score.
 pub const LIMIT: u32 = 1_000_000_000;
+
+// The most boards that a desk has, and the places of its list: the most that the boards' needs come to.
+pub const BOARDS: usize = 32;
+
+pub const PLACES: usize = 1024;
 
 #[repr(C)]
 #[derive(Clone, Copy, Default)]
@@ -47,9 +53,9 @@ pub struct Time {
 pub struct Desk {
     pub time: Time,
     pub count: usize,
-    pub boards: [Board; 32],
+    pub boards: [Board; BOARDS],
     pub len: usize,
-    pub entries: [Entry; 1024],
+    pub entries: [Entry; PLACES],
 }
 
 // A message's kind, its byte 6, and its numbers at bytes 8, 12 and 16. The kind is a number, for a message of any other kind is refused with 4.
@@ -112,7 +118,7 @@ impl TryFrom<u32> for Kind {
             2 => Ok(Kind::Request),
             3 => Ok(Kind::Open),
             4 => Ok(Kind::Clock),
-            0 | 5..=4294967295 => Err(Refusal::Kind),
+            0 | 5.. => Err(Refusal::Kind),
         }
     }
 }
@@ -127,6 +133,8 @@ impl From<Refusal> for u32 {
 
 // A refusal is printed as its number.
 impl fmt::Display for Refusal {
+    ghost output = { λ refusal. Some (decimal (number refusal)) };
+
     fn fmt<W: fmt::Write>(&self, f: &mut fmt::Formatter<W>) -> fmt::Result {
         let number = u32::from(*self);
         write!(f, "{number}")
@@ -230,7 +238,7 @@ impl Desk {
         ensures boards { result.now ≡ loaded self.now }
         ensures few { length result.now ≤ 32 }
     {
-        &self.boards[..self.count.min(32)]
+        &self.boards[..self.count.min(BOARDS)]
     }
 
     // The entries on the list, best first; likewise no more than 1,024.
@@ -238,7 +246,7 @@ impl Desk {
         ensures entries { result.now ≡ listed self.now }
         ensures few { length result.now ≤ 1024 }
     {
-        &self.entries[..self.len.min(1024)]
+        &self.entries[..self.len.min(PLACES)]
     }
 
     pub fn is_open(&self) -> bool
