@@ -1,20 +1,18 @@
 -- A number that has a kind is this kind's; and which bytes must be zero where a kind has few fields.
-use mathlib.Core.Path.{◌≡◌, refl, ap₂, ◌∙◌}
+use mathlib.Core.Path.{◌≡◌, ap₂, ◌∙◌}
 use mathlib.Core.List.{List}
-use mathlib.Core.Bool.{Bool, true, false, cond, ◌&&◌}
+use mathlib.Core.Bool.{◌&&◌}
 use Prim.Native.Nat.{ℕ}
 use native.Mathlib.Omega.{arith}
 use lib.Dec.{eqb}
 use lib.ListN.{length, take, drop}
 use Rattle.std.proofs.lemmas.Bool.Decides.{nat_tests}
-use Rattle.std.specs.Prelude.{Ok, Err}
+use Rattle.std.specs.Prelude.{Ok}
 use Rattle.lists.specs.Views.{all}
 use Rattle.lists.proofs.Best.{all_append}
-use Rattle.rules.specs.Messages.{by_kind, kind_at, zeros_stand, zero_places, layout, places, is_zero}
-use Rattle.rules.specs.Desk.{within}
+use Rattle.rules.specs.Messages.{kind_at, zeros_stand, zero_places, layout, places, is_zero}
 use Rattle.rules.specs.Replies.{kind_of}
 use Rattle.rules.specs.declared.Kind.{Kind}
-use Rattle.rules.specs.declared.Refusal.{Refusal}
 use Rattle.message.proofs.Numbers.{zeros_taken}
 
 abbrev pub number_of : Kind → ℕ
@@ -25,13 +23,6 @@ number_of Kind.Clock = 4
 
 pub kind_is : (n : ℕ) (kind : Kind) → kind_of n ≡ Ok kind → n ≡ number_of kind
 kind_is n kind e = grind (arith, nat_tests)
-
-pub not_named : (n : ℕ) (refusal : Refusal) → kind_of n ≡ Err refusal → (within 1 4 n ≡ false) × (refusal ≡ Refusal.Kind)
-not_named n refusal e = go (within 1 4 n) e
-  where
-    go : (t : Bool) → cond t (Ok (by_kind n Kind.Board Kind.Request Kind.Open Kind.Clock)) (Err Refusal.Kind) ≡ Err refusal → (t ≡ false) × (refusal ≡ Refusal.Kind)
-    go true e = cc
-    go false e = (refl, cc)
 
 module _ (bytes : List ℕ) (h : length bytes ≡ 20) where
   pub open_zeros : kind_of (kind_at bytes) ≡ Ok Kind.Open → zeros_stand bytes (kind_at bytes) ≡ all (λ byte. eqb byte 0) (take 14 (drop 6 bytes))

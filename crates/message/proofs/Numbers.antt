@@ -3,11 +3,11 @@ use mathlib.Core.Path.{◌≡◌, refl, sym, ap, ◌∙◌}
 use mathlib.Core.List.{List, [], ◌∷◌, ◌++◌}
 use mathlib.Core.Bool.{◌&&◌}
 use Prim.Native.Nat.{ℕ, zero, suc, ◌+◌, ◌*◌, ◌/◌, ◌%◌, ◌^◌, ◌≤◌, ◌<◌}
-use native.Mathlib.Nat.{pow-suc, pow-le-pow_right, one-le-pow, mul_assoc, mul-le-mul, add-zero, zero-add, div-lt_iff_lt-mul}
+use native.Mathlib.Nat.{pow-suc, one-le-pow, mul_assoc, mul-le-mul, add-zero, zero-add, div-lt_iff_lt-mul}
 use native.Mathlib.Omega.{arith}
 use native.Mathlib.Numerals.{add-one}
 use borrow.Author.Tests.{ne_eqb}
-use lib.Arith.{digits_lt, digits_div, digits_mod}
+use lib.Arith.{digits_div, digits_mod}
 use lib.Dec.{eqb, lit<}
 use lib.ListN.{length, take, drop, get_or, length-append, length-drop}
 use lib.Seq.{take-suc, take_at, take-append-le, drop_at, drop-cons, drop-append-le, get_or-drop}
@@ -34,16 +34,6 @@ one_more bytes from size h =
 pub one_byte : (bytes : List ℕ) (from : ℕ) → from < length bytes → number_at bytes from 1 ≡ get_or bytes from 0
 unfolding big_endian
 one_byte bytes from h = one_more bytes from 0 (omega arith) ∙ simp (add-zero, zero-add)
-
--- A number in `size` bytes is below 256 ^ size, and four bytes fit 32 bits.
-pub below_more : {n byte : ℕ} (size : ℕ) → n < 256 ^ size → byte < 256 → n * 256 + byte < 256 ^ (size + 1)
-below_more size h k = rw (add-one, pow-suc) (digits_lt h k)
-
-pub fits_more : {n byte : ℕ} (size : ℕ) → n < 256 ^ size → byte < 256 → size < 4 → n * 256 + byte < 2 ^ 32
-fits_more size h k l =
-    let p : size + 1 ≤ 4 = omega arith in
-    let q : 256 ^ (size + 1) ≤ 256 ^ 4 = pow-le-pow_right (lit< tt) p in
-    omega (arith, below_more size h k)
 
 -- A number and its digits
 

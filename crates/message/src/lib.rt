@@ -31,7 +31,7 @@ pub fn read(bytes: &[u8]) -> Result<Message, Refusal>
     read_front(front)
 }
 
-#[tactic(auto, using(crate::proofs::Reading::marked, crate::proofs::Reading::kind_byte, crate::proofs::Parts::message_kind, crate::proofs::Named::not_named), unfolding(rules::specs::Calls::reader_call))]
+#[tactic(auto, using(crate::proofs::Reading::kind_byte, crate::proofs::Parts::message_kind, std::proofs::lemmas::Bool::Decides::nat_tests), unfolding(rules::specs::Calls::reader_call))]
 fn read_front(bytes: &[u8; SIZE]) -> Result<Message, Refusal>
     ensures { replied result ≡ reader_call bytes.now }
 {
@@ -61,7 +61,7 @@ pub fn rest(bytes: &[u8]) -> &[u8]
 }
 
 // The big-endian number in these bytes, four at most.
-#[tactic(auto, using(crate::proofs::Numbers::taken_more, crate::proofs::Numbers::fits_more, crate::proofs::Numbers::below_more), unfolding(rules::specs::Messages::big_endian))]
+#[tactic(auto, using(crate::proofs::Numbers::taken_more), unfolding(rules::specs::Messages::big_endian))]
 fn number(bytes: &[u8]) -> u32
     requires { length bytes.now ≤ 4 }
     ensures { result ≡ big_endian bytes.now }
@@ -91,7 +91,7 @@ fn fields(kind: Kind, bytes: &[u8; SIZE]) -> Message
 }
 
 // The fields that the kind has, and 0 for the others.
-#[tactic(auto, using(crate::proofs::Named::kind_is), unfolding(rules::specs::Messages::own, rules::specs::Messages::layout))]
+#[tactic(auto, unfolding(rules::specs::Messages::own, rules::specs::Messages::layout))]
 fn own(kind: Kind, fields: Message) -> Message
     requires { kind_of fields.kind ≡ Ok kind }
     ensures { result ≡ own fields }
@@ -123,7 +123,7 @@ fn zero(bytes: &[u8]) -> bool
 }
 
 // The bytes that must be zero are.
-#[tactic(auto, using(crate::proofs::Named::kind_is, crate::proofs::Named::open_zeros, crate::proofs::Named::clock_zeros), unfolding(rules::specs::Messages::zeros_stand, rules::specs::Messages::zero_places, rules::specs::Messages::layout))]
+#[tactic(auto, using(crate::proofs::Named::open_zeros, crate::proofs::Named::clock_zeros), unfolding(rules::specs::Messages::zeros_stand, rules::specs::Messages::zero_places, rules::specs::Messages::layout))]
 fn zeros_stand(kind: Kind, bytes: &[u8; SIZE]) -> bool
     requires { kind_of (kind_at bytes.now) ≡ Ok kind }
     ensures { result ≡ zeros_stand bytes.now (kind_at bytes.now) }
@@ -137,7 +137,7 @@ fn zeros_stand(kind: Kind, bytes: &[u8; SIZE]) -> bool
 }
 
 // The fields of a message are in their ranges.
-#[tactic(auto, using(crate::proofs::Named::kind_is), unfolding(rules::specs::Messages::fields_fit))]
+#[tactic(auto, unfolding(rules::specs::Messages::fields_fit))]
 fn fields_fit(kind: Kind, fields: Message) -> bool
     requires { kind_of fields.kind ≡ Ok kind }
     ensures { result ≡ fields_fit fields }
