@@ -1,71 +1,70 @@
--- Views one after another mark what all of them mark together, so each group of views can walk alone; what has a mark at last is what sifting keeps.
-use mathlib.Core.Path.{◌≡◌, refl, ap, ap₂, ◌∙◌}
-use mathlib.Core.List.{List, [], ◌∷◌, ◌++◌, map}
-use mathlib.Core.Bool.{Bool, true, false, cond, ◌||◌}
-use Prim.Native.Nat.{ℕ, zero, suc, ◌+◌, ◌-◌, ◌≤◌, ◌<◌, min}
+-- Views one after another mark what all of them mark together, so each group of views can walk alone.
+use mathlib.Core.Path.{◌≡◌, refl, sym, ap, ap₂, subst, ◌∙◌}
+use mathlib.Core.List.Memᴰ
+use mathlib.Core.List.{List, [], ◌∷◌, ◌++◌}
+use mathlib.Core.Bool.{Bool, true, false, cond, ◌&&◌, ◌||◌}
+use Prim.Native.Nat.{ℕ, suc, ◌+◌, ◌-◌, ◌<◌}
 use native.Mathlib.Omega.{arith}
 use native.Mathlib.Numerals.{add-one}
-use native.Mathlib.Nat.{min-le_right, le_of_suc-le-suc, not-suc-le-zero}
-use borrow.Author.Tests.{le-ltb}
 use lib.Dec.{ltb}
-use lib.ListN.{length, take, drop, get_or, set, replicate}
+use lib.ListN.{length, take, drop, get_or, set}
 use lib.Seq.{take-suc, take-suc-set, drop-cons, drop-set-lt, append_snoc}
-use Rattle.lists.specs.Views.{View, along, shows, pass, sift}
-use Rattle.lists.specs.Nested.{nested, empties, from, Rise}
-use Rattle.lists.specs.Marks.{noted, marked}
+use Rattle.lists.specs.Views.{View, spend, shows, pass}
+use Rattle.lists.specs.Nested.{from}
+use Rattle.lists.specs.Marks.{noted, Blind}
+use Rattle.lists.proofs.Bools.{by}
 use Rattle.lists.proofs.Quota.{idle}
-use Rattle.lists.proofs.Along.{shows_along, pass_along}
-use Rattle.lists.proofs.Nested.{left_edge, nested_shows, shows_append, pass_append}
+use Rattle.lists.proofs.Nested.{shows_append, pass_append}
 
-twice : (a b : Bool) (m : ℕ) → cond (a || b) 1 m ≡ cond b 1 (cond a 1 m)
-twice true true m = refl
-twice true false m = refl
-twice false b m = refl
+module _ {A : Type 0} (mark : A → A) where
+  pub noted_none : (xs : List A) → noted mark [] xs ≡ xs
+  noted_none [] = refl
+  noted_none (x ∷ xs) = ap (λ l. x ∷ l) (noted_none xs)
 
-shown_mark : (b : Bool) → ltb 0 (cond b 1 0) ≡ b
-shown_mark true = refl
-shown_mark false = refl
+  -- Views that show nothing mark nothing.
+  pub noted_idle : (vs : List (View A)) (xs : List A) → ((x : A) → shows vs x ≡ false) → noted mark vs xs ≡ xs
+  noted_idle vs [] h = refl
+  noted_idle vs (x ∷ xs) h = rw (h x, idle vs x (h x)) (ap (λ l. x ∷ l) (noted_idle vs xs h))
 
-module _ {A : Type 0} where
-  pub noted_none : (xs : List A) (ms : List ℕ) → noted [] xs ms ≡ ms
-  noted_none [] ms = refl
-  noted_none (x ∷ xs) [] = refl
-  noted_none (x ∷ xs) (m ∷ ms) = ap (λ l. m ∷ l) (noted_none xs ms)
+  -- what blind views show and lose does not depend on a mark
+  blind_shows : (vs : List (View A)) (x : A) → Blind mark vs → shows vs (mark x) ≡ shows vs x
+  blind_shows [] x h = refl
+  blind_shows (v ∷ vs) x h = ap₂ (λ b c. (b && ltb 0 v.cap) || c) (h v (Memᴰ.head refl) x) (blind_shows vs x (λ u m. h u (Memᴰ.tail m)))
 
-  pub noted_append : (vs ws : List (View A)) (xs : List A) (ms : List ℕ) → noted (vs ++ ws) xs ms ≡ noted ws xs (noted vs xs ms)
-  noted_append vs ws [] ms = refl
-  noted_append vs ws (x ∷ xs) [] = refl
-  noted_append vs ws (x ∷ xs) (m ∷ ms) =
-      rw (shows_append vs ws x, pass_append vs ws x)
-      (ap₂ (λ n l. n ∷ l) (twice (shows vs x) (shows ws x) m) (noted_append (pass x vs) (pass x ws) xs ms))
+  blind_pass : (vs : List (View A)) (x : A) → Blind mark vs → pass (mark x) vs ≡ pass x vs
+  blind_pass [] x h = refl
+  blind_pass (v ∷ vs) x h =
+      ap₂ {C = List (View A)} (λ b us. record { inside = v.inside; cap = cond b (v.cap - 1) v.cap } ∷ us) (h v (Memᴰ.head refl) x) (blind_pass vs x (λ u m. h u (Memᴰ.tail m)))
 
-  pub marked_sift : (vs : List (View A)) (xs : List A) (n : ℕ) → length xs ≤ n → marked (noted vs xs (replicate n 0)) xs ≡ sift vs xs
-  marked_sift vs [] n h = refl
-  marked_sift vs (x ∷ xs) zero h = absurd (not-suc-le-zero h)
-  marked_sift vs (x ∷ xs) (suc n) h = rw (shown_mark (shows vs x), marked_sift (pass x vs) xs n (le_of_suc-le-suc h))
+  blind_on : (vs : List (View A)) (x : A) → Blind mark vs → Blind mark (pass x vs)
+  blind_on vs x h u m y = let s = Memᴰ.of_map (spend x) vs m in subst (λ (w : View A). w.inside (mark y) ≡ w.inside y) s.2 (h s.0 s.1 y)
+
+  -- a second mark changes nothing
+  module _ (again : (x : A) → mark (mark x) ≡ mark x) where
+    twice : (a b : Bool) (x : A) → cond (a || b) (mark x) x ≡ cond b (mark (cond a (mark x) x)) (cond a (mark x) x)
+    twice true true x = sym (again x)
+    twice true false x = refl
+    twice false b x = refl
+
+    pub noted_append : (vs ws : List (View A)) (xs : List A) → Blind mark ws → noted mark (vs ++ ws) xs ≡ noted mark ws (noted mark vs xs)
+    noted_append vs ws [] h = refl
+    noted_append vs ws (x ∷ xs) h =
+        let y : A = cond (shows vs x) (mark x) x in
+        let s : shows ws y ≡ shows ws x = by (shows vs x) (λ e. rw e (blind_shows ws x h)) (λ e. rw e) in
+        let p : pass y ws ≡ pass x ws = by (shows vs x) (λ e. rw e (blind_pass ws x h)) (λ e. rw e) in
+        rw (shows_append vs ws x, pass_append vs ws x, s, p)
+        (ap₂ (λ z l. z ∷ l) (twice (shows vs x) (shows ws x) x) (noted_append (pass x vs) (pass x ws) xs (blind_on ws x h)))
 
   -- a walk that marks, turn by turn: what is shown, and what is not
-  module _ (vs : List (View A)) (x : A) (xs : List A) (ms : List ℕ) (i : ℕ) (h : i < length ms) where
-    here : from i (noted vs (x ∷ xs)) ms ≡ take i ms ++ (cond (shows vs x) 1 (get_or ms i 0) ∷ noted (pass x vs) xs (drop (i + 1) ms))
-    here = rw (drop-cons ms i 0 h, add-one)
+  module _ (vs : List (View A)) (xs : List A) (i : ℕ) (d : A) (h : i < length xs) where
+    abbrev x : A
+    x = get_or xs i d
 
-    pub noted_shown : shows vs x ≡ true → from i (noted vs (x ∷ xs)) ms ≡ from (i + 1) (noted (pass x vs) xs) (set ms i 1)
-    noted_shown e = here ∙ rw (e, add-one, take-suc-set ms i 1 h, drop-set-lt (suc i) ms i 1 (omega arith), append_snoc)
+    here : from i (noted mark vs) xs ≡ take i xs ++ (cond (shows vs x) (mark x) x ∷ noted mark (pass x vs) (drop (i + 1) xs))
+    here = rw (drop-cons xs i d h, add-one)
 
-    pub noted_passed : shows vs x ≡ false → from i (noted vs (x ∷ xs)) ms ≡ from (i + 1) (noted vs xs) ms
-    noted_passed e = here ∙ rw (e, idle vs x e, add-one, take-suc ms i 0 h, append_snoc)
+    pub noted_shown : shows vs x ≡ true → from i (noted mark vs) xs ≡ from (i + 1) (noted mark (pass x vs)) (set xs i (mark x))
+    noted_shown e = here ∙ rw (e, add-one, take-suc-set xs i (mark x) h, drop-set-lt (suc i) xs i (mark x) (omega arith), append_snoc)
 
--- Nested views with nothing left mark nothing.
-pub noted_empty : {A : Type 0} (reach : A → ℕ) (i : ℕ) (qs : List ℕ) (xs : List A) (ms : List ℕ) → Rise 0 qs → length qs ≤ empties qs → noted (nested reach i qs) xs ms ≡ ms
-noted_empty reach i qs [] ms r h = refl
-noted_empty reach i qs (x ∷ xs) [] r h = refl
-noted_empty reach i qs (x ∷ xs) (m ∷ ms) r h =
-    let k = min-le_right (reach x - i) (length qs) in
-    let e : shows (nested reach i qs) x ≡ false = nested_shows reach i 0 qs x r ∙ left_edge 0 (min (reach x - i) (length qs)) qs r k ∙ le-ltb (empties qs) (min (reach x - i) (length qs)) (omega arith) in
-    rw (e, idle (nested reach i qs) x e) (ap (λ l. m ∷ l) (noted_empty reach i qs xs ms r h))
-
--- Views look at what f makes of the elements alone.
-pub noted_along : {A B : Type 0} (f : A → B) (vs : List (View B)) (xs : List A) (ms : List ℕ) → noted (map (along f) vs) xs ms ≡ noted vs (map f xs) ms
-noted_along f vs [] ms = refl
-noted_along f vs (x ∷ xs) [] = refl
-noted_along f vs (x ∷ xs) (m ∷ ms) = rw (shows_along f x vs, pass_along f x vs, noted_along f (pass (f x) vs) xs ms)
+    pub noted_passed : shows vs x ≡ false → from i (noted mark vs) xs ≡ from (i + 1) (noted mark vs) xs
+    noted_passed e = here ∙ rw (e, idle vs x e, add-one, take-suc xs i d h, append_snoc)

@@ -1,16 +1,13 @@
--- Marks at the places of a list: what views show of it has one.
-use Rattle.std.specs.Prelude.{List, [], ◌∷◌, cond, ℕ, ltb}
-use Rattle.lists.specs.Views.{View, put, shows, pass}
+-- Marks on the elements of a list: what views show of it has one.
+use Rattle.std.specs.Prelude.{◌≡◌, List, [], ◌∷◌, cond}
+use Rattle.lists.specs.Views.{View, ◌∈◌, shows, pass}
 
-module _ {A : Type 0} where
-  -- a mark at each element that some view shows, best first; the others' stay as they are
-  abbrev pub noted : List (View A) → List A → List ℕ → List ℕ
-  noted vs [] ms = ms
-  noted vs (x ∷ xs) [] = []
-  noted vs (x ∷ xs) (m ∷ ms) = cond (shows vs x) 1 m ∷ noted (pass x vs) xs ms
+module _ {A : Type 0} (mark : A → A) where
+  -- a mark on each element that some view shows, best first; the others stay as they are
+  abbrev pub noted : List (View A) → List A → List A
+  noted vs [] = []
+  noted vs (x ∷ xs) = cond (shows vs x) (mark x) x ∷ noted (pass x vs) xs
 
-  -- the elements that have a mark
-  abbrev pub marked : List ℕ → List A → List A
-  marked ms [] = []
-  marked [] (x ∷ xs) = []
-  marked (m ∷ ms) (x ∷ xs) = put (ltb 0 m) x (marked ms xs)
+  -- views to which a mark makes no difference
+  abbrev pub Blind : List (View A) → Type 0
+  Blind vs = (v : View A) → v ∈ vs → (x : A) → v.inside (mark x) ≡ v.inside x

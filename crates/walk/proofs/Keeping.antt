@@ -1,36 +1,144 @@
 -- What has a mark is kept: it is what sifting by all boards' views keeps, and so it fits the list.
+use mathlib.Core.Logic.{inl, inr}
 use mathlib.Core.Path.{◌≡◌, refl, sym, ap, ◌∙◌}
-use mathlib.Core.List.{List, [], ◌∷◌, ◌++◌, map, append-nil}
-use Prim.Native.Nat.{ℕ, ◌+◌, ◌≤◌, ◌<◌}
+use mathlib.Core.List.Memᴰ
+use mathlib.Core.List.{List, [], ◌∷◌, ◌++◌, map, map-append}
+use Prim.Native.Nat.{ℕ, zero, suc, ◌+◌, ◌*◌, ◌/◌, ◌%◌, ◌^◌, ◌-◌, ◌≤◌, ◌<◌, max}
 use native.Mathlib.Omega.{arith}
 use native.Mathlib.Numerals.{add-one}
-use native.Mathlib.Nat.{mul_comm}
-use borrow.Author.Tests.{lt-ltb, le-ltb}
-use lib.ListN.{length, take, drop, get_or, set, replicate, length-append, length-set, take-append-drop, drop_of_length-le}
-use lib.Seq.{length-take-le, take-suc-set, drop-cons, drop-set-lt, drop-drop, append_snoc}
-use Rattle.lists.specs.Views.{sift, caps}
-use Rattle.lists.specs.Marks.{noted, marked}
+use native.Mathlib.Nat.{add_comm, mul_comm, zero-mul, two-pow-succ, pow-le-pow_right, mod-lt}
+use mathlib.Core.Bool.{true, false}
+use borrow.Author.Tests.{ltb-true, lt-ltb}
+use lib.Bits.{bit_and, and_high, and_zero_r}
+use lib.Dec.{eqb, ltb}
+use lib.ListN.{length, take, drop, get_or, replicate, length-append}
+use lib.Seq.{drop-cons, drop-drop, length-take-le}
+use borrow.Rule.Slice.PartMut.{put_mid}
+use Rattle.lists.specs.Views.{View, along, shows, pass, sift, caps}
+use Rattle.lists.specs.Nested.{nested}
+use Rattle.lists.specs.Marks.{noted, Blind}
+use Rattle.lists.proofs.Bools.{by}
 use Rattle.lists.proofs.Laws.{room}
+use Rattle.lists.proofs.Along.{shows_along, pass_along}
 use Rattle.lists.proofs.Nested.{nested_caps, caps_append}
-use Rattle.lists.proofs.Marks.{noted_append, marked_sift}
-use Rattle.lists.proofs.Fronts.{drop_filled}
-use Rattle.lists.proofs.Turns.{turn}
-use Rattle.rules.specs.Desk.{need, needs, no_board, no_entry}
-use Rattle.rules.specs.Moments.{upto}
-use Rattle.rules.specs.Cells.{cells, cell_views}
+use Rattle.lists.proofs.Marks.{noted_append}
+use Rattle.rules.specs.Desk.{names, need, needs, no_board, no_entry}
 use Rattle.rules.specs.SharedList.{settled}
+use Rattle.rules.specs.Moments.{upto}
+use Rattle.rules.specs.Cells.{reach, cells, cell_views}
 use Rattle.rules.specs.declared.Board.{Board}
 use Rattle.rules.specs.declared.Entry.{Entry}
-use Rattle.walk.specs.Line.{bit_of, Spot, spots}
-use Rattle.walk.specs.Edges.{views_from, board_views}
-use Rattle.walk.proofs.Lining.{noted_spots}
+use Rattle.walk.specs.Line.{bit_of, named_bits, spot_of, with_mark, kept}
+use Rattle.walk.specs.Edges.{reach_of, views_from, board_views}
+use Rattle.walk.specs.declared.Spot.{Spot}
 
--- The boards mark one after another.
-pub next_board : (boards : List Board) (count i n : ℕ) (es : List Spot) (ms : List ℕ) → count ≤ length boards → i < count
+-- The boards mark one after another, for no view looks at a mark.
+
+blind_nested : (b : Board) (i : ℕ) (qs : List ℕ) → Blind with_mark (nested (reach_of b) i qs)
+unfolding reach_of
+blind_nested b i [] v m x = absurd (Memᴰ.not-nil m)
+blind_nested b i (q ∷ qs) v (Memᴰ.head e) x = rw e
+blind_nested b i (q ∷ qs) v (Memᴰ.tail m) x = blind_nested b (suc i) qs v m x
+
+blind_boards : (bs : List Board) (n : ℕ) → Blind with_mark (board_views bs n)
+unfolding board_views views_from
+blind_boards [] n v m x = absurd (Memᴰ.not-nil m)
+blind_boards (b ∷ bs) n v m x =
+    elim (Memᴰ.append_cases (nested (reach_of b) (upto b n) (replicate (cells b) b.k)) m) [
+      | inl k ↦ blind_nested b (upto b n) (replicate (cells b) b.k) v k x
+      | inr k ↦ blind_boards bs n v k x
+    ]
+
+pub next_board : (boards : List Board) (i n : ℕ) (line : List Spot) → i < length boards
     → let b = get_or boards i no_board in
-    noted (board_views (drop i (take count boards)) n) es ms ≡ noted (board_views (drop (i + 1) (take count boards)) n) es (noted (views_from b (upto b n) (replicate (cells b) b.k)) es ms)
+    noted with_mark (board_views (drop i boards) n) line ≡ noted with_mark (board_views (drop (i + 1) boards) n) (noted with_mark (views_from b (upto b n) (replicate (cells b) b.k)) line)
 unfolding board_views
-next_board boards count i n es ms few h = rw (turn boards count no_board few i h, noted_append)
+next_board boards i n line h =
+    let b : Board = get_or boards i no_board in
+    rw (drop-cons boards i no_board h, add-one)
+    (noted_append with_mark (λ x. refl) (views_from b (upto b n) (replicate (cells b) b.k)) (board_views (drop (suc i) boards) n) line (blind_boards (drop (suc i) boards) n))
+
+-- A view sees an entry's tick and its topic's bit alone.
+
+-- the bit of a number at a place, as an and with a power of two
+and_power : (n k : ℕ) → bit_and n (2 ^ k) ≡ (n / 2 ^ k % 2) * 2 ^ k
+and_power n k =
+    let p : 2 ^ (1 + k) - 2 ^ k ≡ 2 ^ k = rw (add_comm 1 k, add-one, two-pow-succ) (omega arith) in
+    rw p at (and_high n 1 k)
+
+all_eight : (t : ℕ) → t < 8 → 255 / 2 ^ t % 2 ≡ 1
+all_eight zero h = refl
+all_eight (suc zero) h = refl
+all_eight (suc (suc zero)) h = refl
+all_eight (suc (suc (suc zero))) h = refl
+all_eight (suc (suc (suc (suc zero)))) h = refl
+all_eight (suc (suc (suc (suc (suc zero))))) h = refl
+all_eight (suc (suc (suc (suc (suc (suc zero)))))) h = refl
+all_eight (suc (suc (suc (suc (suc (suc (suc zero))))))) h = refl
+all_eight (suc (suc (suc (suc (suc (suc (suc (suc t)))))))) h = absurd (omega arith)
+
+-- a product with a power of two is above 0 exactly if the bit is 1
+bit_test : (d k : ℕ) → d < 2 → ltb 0 (d * 2 ^ k) ≡ eqb d 1
+bit_test zero k h = rw zero-mul
+bit_test (suc zero) k h = let p : 1 ≤ 2 ^ k = pow-le-pow_right {n = 2} (omega arith) {i = 0} {j = k} (omega arith) in lt-ltb 0 (1 * 2 ^ k) (omega arith)
+bit_test (suc (suc d)) k h = absurd (omega arith)
+
+named_bit : (b : Board) (t : ℕ) → ltb 0 (bit_and (named_bits b) (bit_of t)) ≡ names b t
+unfolding names
+named_bit b t =
+    by (ltb t 8)
+    (λ e.
+    rw (e, and_power, bit_test (named_bits b / 2 ^ t % 2) t (mod-lt (named_bits b / 2 ^ t) {m = 2} (omega arith))) (
+    by (eqb b.mask 0)
+    (λ z. rw (z, all_eight t (ltb-true _ _ e)))
+    (λ z. rw z)
+    ))
+    (λ e. rw (e, and_zero_r))
+
+reach_spot : (b : Board) (e : Entry) → reach_of b (spot_of e) ≡ reach b e
+unfolding reach_of reach
+reach_spot b e = rw named_bit
+
+nested_spot : (b : Board) (i : ℕ) (qs : List ℕ) → map (along spot_of) (nested (reach_of b) i qs) ≡ nested (reach b) i qs
+nested_spot b i [] = refl
+nested_spot b i (q ∷ qs) = λ j. record { inside = λ e. ltb i (reach_spot b e j); cap = q } ∷ nested_spot b (suc i) qs j
+
+views_spot : (bs : List Board) (n : ℕ) → map (along spot_of) (board_views bs n) ≡ cell_views bs n
+unfolding cell_views board_views views_from
+views_spot [] n = refl
+views_spot (b ∷ bs) n = rw (map-append, nested_spot, views_spot bs n)
+
+-- The marks of all boards: what has one is what sifting keeps.
+
+kept_sift : (vs : List (View Spot)) (es : List Entry) → kept (noted with_mark vs (map spot_of es)) ≡ sift (map (along spot_of) vs) es
+kept_sift vs [] = refl
+kept_sift vs (e ∷ es) =
+    by (shows vs (spot_of e))
+    (λ s. rw (shows_along spot_of e vs, pass_along spot_of e vs, s) (ap (λ l. e ∷ l) (kept_sift (pass (spot_of e) vs) es)))
+    (λ s. rw (shows_along spot_of e vs, pass_along spot_of e vs, s) (kept_sift (pass (spot_of e) vs) es))
+
+pub all_kept : (bs : List Board) (n : ℕ) (es : List Entry) {line : List Spot} → line ≡ noted with_mark (board_views bs n) (map spot_of es) → kept line ≡ sift (cell_views bs n) es
+all_kept bs n es e = rw (e, kept_sift) (ap (λ vs. sift vs es) (views_spot bs n))
+
+-- Onto the list, one by one
+
+abbrev no_spot : Spot
+no_spot = record { entry = no_entry; bit = 0; marked = false }
+
+-- what is marked goes to a place that the list has
+pub place : (line : List Spot) (entries : List Entry) (i now : ℕ) → i < length line → (get_or line i no_spot).marked ≡ true → now ≤ length entries → take now entries ++ kept (drop i line) ≡ kept line → now < length (kept line)
+place line entries i now h m k t =
+    let n : suc (length (kept (drop (suc i) line))) ≡ length (kept (drop i line)) = rw (drop-cons line i no_spot h, m) in
+    omega (arith, length-append (take now entries) (kept (drop i line)), length-take-le now entries k, ap length t)
+
+-- behind the list come zeros up to the old length
+pub settles : (len now : ℕ) (stood entries : List Entry) {es zeros : List Entry} → now ≤ length entries → take now entries ≡ es → drop now entries ≡ drop now stood → zeros ≡ replicate (max len now - now) no_entry
+    → (now ≡ length es) × (put_mid now (max len now - now) entries zeros ≡ settled len stood es)
+unfolding settled
+settles len now stood entries {es} k t b z =
+    let l : length es ≡ now = ap length (sym t) ∙ length-take-le now entries k in
+    let n : max len now - now ≡ len - now = omega arith in
+    (sym l, rw (z, b, t, l, n, drop-drop))
 
 -- What is kept is at most the sum of needs.
 
@@ -41,62 +149,3 @@ caps_needs n (b ∷ bs) = rw (caps_append, nested_caps, caps_needs n bs, mul_com
 
 pub sift_few : (n : ℕ) (bs : List Board) (es : List Entry) → length (sift (cell_views bs n) es) ≤ needs bs
 sift_few n bs es = rw (← caps_needs n bs) (room (cell_views bs n) es)
-
--- The marks of all boards on the columns of these entries: what has one is what sifting keeps.
-pub all_marked : (bs : List Board) (n : ℕ) (es : List Entry) {ticks bits ms : List ℕ} → ticks ≡ map (λ (e : Entry). e.tick) es → bits ≡ map (λ (e : Entry). bit_of e.topic) es
-    → (size : ℕ) → length es ≤ size → ms ≡ noted (board_views bs n) (spots ticks bits) (replicate size 0) → marked ms es ≡ sift (cell_views bs n) es
-all_marked bs n es {ms = ms} t p size short e =
-    let m : ms ≡ noted (cell_views bs n) es (replicate size 0) = rw (t, p, noted_spots bs n es (replicate size 0)) at e in
-    rw m (marked_sift (cell_views bs n) es size short)
-
--- The list on its way: what stands on it, and what is marked of the rest, is all that is marked; behind what is kept nothing was written yet.
-pub record Keeping (ms : List ℕ) (es begun entries : List Entry) (i kept : ℕ) : Type 0 where
-  pub done : i ≤ length es
-  pub fits : kept ≤ 1024
-  pub all_places : length entries ≡ 1024
-  pub behind : drop kept entries ≡ drop kept begun
-  pub whole : take kept entries ++ marked (drop i ms) (drop i es) ≡ marked ms es
-
-pub begins : {ms : List ℕ} {es begun : List Entry} → length begun ≡ 1024 → Keeping ms es begun begun 0 0
-begins l = record { done = omega arith; fits = omega arith; all_places = l; behind = refl; whole = refl }
-
-module _ {ms : List ℕ} {es begun entries : List Entry} {i kept : ℕ} (k : Keeping ms es begun entries i kept) where
-  module _ (h : i < length es) (short : i < length ms) where
-    here : take kept entries ++ marked (get_or ms i 0 ∷ drop (i + 1) ms) (get_or es i no_entry ∷ drop (i + 1) es) ≡ marked ms es
-    here =
-        let m : drop i ms ≡ get_or ms i 0 ∷ drop (i + 1) ms = rw add-one (drop-cons ms i 0 short) in
-        let x : drop i es ≡ get_or es i no_entry ∷ drop (i + 1) es = rw add-one (drop-cons es i no_entry h) in
-        rw (m, x) at k.whole
-
-    pub skips : get_or ms i 0 ≤ 0 → Keeping ms es begun entries (i + 1) kept
-    skips z = record {
-      done = omega arith;
-      fits = k.fits;
-      all_places = k.all_places;
-      behind = k.behind;
-      whole = rw (le-ltb 0 (get_or ms i 0) z) at here;
-    }
-
-    module _ (enough : length (marked ms es) ≤ 1024) (p : 0 < get_or ms i 0) where
-      pub place : kept < 1024
-      place =
-          let v = rw length-append at (ap length (rw (lt-ltb 0 (get_or ms i 0) p) at here)) in
-          omega (arith, length-take-le kept entries (omega (arith, k.fits, k.all_places)))
-
-      pub keeps : {e : Entry} → e ≡ get_or es i no_entry → Keeping ms es begun (set entries kept e) (i + 1) (kept + 1)
-      keeps {e} s = record {
-        done = omega arith;
-        fits = omega (arith, place);
-        all_places = simp length-set k.all_places;
-        behind = drop-set-lt (kept + 1) entries kept e (omega arith) ∙ sym (drop-drop 1 kept entries) ∙ ap (drop 1) k.behind ∙ drop-drop 1 kept begun;
-        whole = rw (add-one kept, take-suc-set entries kept e (omega (arith, k.all_places, place)), append_snoc, s) (rw (lt-ltb 0 (get_or ms i 0) p) at here);
-      }
-
-  -- at the end what is kept is all, with zeros behind it up to the old length
-  pub kept_all : (len : ℕ) (stood : List Entry) → begun ≡ replicate len no_entry ++ drop len stood → length es ≤ i
-      → (kept ≡ length (marked ms es)) × (entries ≡ settled len stood (marked ms es))
-  unfolding settled
-  kept_all len stood b h =
-      let t : take kept entries ≡ marked ms es = rw (drop_of_length-le es {i = i} h, append-nil) at k.whole in
-      let l : length (marked ms es) ≡ kept = ap length (sym t) ∙ length-take-le kept entries (omega (arith, k.fits, k.all_places)) in
-      (sym l, sym (take-append-drop kept entries) ∙ rw (t, k.behind, b, l, drop_filled))

@@ -1,5 +1,5 @@
 pub mod Walkable
 pub mod Edges
+pub mod Fronts
 pub mod Marking
-pub mod Lining
 pub mod Keeping

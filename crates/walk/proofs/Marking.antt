@@ -1,123 +1,119 @@
--- One board's walk along the line. Its views have no less left the later they are, so the empty ones are the first; lowering keeps that, and both the
--- lowering and the search for the first view with something left may begin behind them.
-use mathlib.Core.Path.{◌≡◌, sym, ap, ◌∙◌}
-use mathlib.Core.List.{List, ◌∷◌}
-use mathlib.Core.Bool.{true, false, ◌&&◌, and-eq-true_iff}
-use Prim.Native.Nat.{ℕ, ◌+◌, ◌-◌, ◌≤◌, ◌<◌}
+-- One board's walk along the line. Its views have no less left the later they are, so those with nothing left are the first ones, and may go; and of those
+-- that stay the first decides what is shown.
+use mathlib.Core.Path.{◌≡◌, refl, sym, ap, ◌∙◌}
+use mathlib.Core.List.{List, [], ◌∷◌, ◌++◌}
+use mathlib.Core.Bool.{true, false, cond, ◌&&◌, and-eq-true_iff}
+use Prim.Native.Nat.{ℕ, suc, ◌+◌, ◌-◌, ◌≤◌, ◌<◌}
 use native.Mathlib.Omega.{arith}
-use native.Mathlib.Nat.{zero-add, min-le_right}
+use native.Mathlib.Nat.{min-le_right}
+use borrow.Author.Tests.{ltb-false, lt-ltb}
 use lib.Dec.{ltb, leb}
-use lib.ListN.{length, take, drop, set, replicate, length-set, take-append-drop, drop_of_length-le}
-use lib.Seq.{length-take-le}
+use lib.ListN.{length, take, drop, get_or, set, replicate, take-append-drop, drop_of_length-le}
+use Rattle.std.specs.Prelude.{Option, Some, None}
 use Rattle.lists.specs.Views.{View, shows, pass}
-use Rattle.lists.specs.Nested.{left as left_of, empties, on_front, from, Rise}
+use Rattle.lists.specs.Nested.{view, nested, empties, from, Rise}
 use Rattle.lists.specs.Marks.{noted}
-use Rattle.lists.proofs.Nested.{rise_all, rise_lower, left_edge, empties_few, empties_past, empties_take, empties_lower, lower_past, nested_shows, nested_pass}
-use Rattle.lists.proofs.Fronts.{front_same, front_take, front_min}
-use Rattle.lists.proofs.Marks.{noted_shown, noted_passed, noted_empty}
+use Rattle.lists.proofs.Bools.{by}
+use Rattle.lists.proofs.Nested.{left_edge, nested_shows, nested_pass}
+use Rattle.lists.proofs.Fronts.{front_min}
+use Rattle.lists.proofs.Marks.{noted_idle, noted_shown, noted_passed}
+use Rattle.rules.specs.Desk.{no_entry}
+use Rattle.rules.specs.Moments.{upto}
+use Rattle.rules.specs.Cells.{cells}
 use Rattle.rules.specs.declared.Board.{Board}
-use Rattle.walk.specs.Line.{Spot}
-use Rattle.walk.specs.Edges.{counts_for, reach_of, held_by, views_from, Numbered, holding, never, edge}
+use Rattle.walk.specs.Line.{with_mark}
+use Rattle.walk.specs.Edges.{counts_for, reach_of, held_by, views_from, lowered, edge, past}
+use Rattle.walk.specs.declared.Spot.{Spot}
+use Rattle.walk.specs.declared.Views.{Views}
 use Rattle.walk.proofs.Edges.{at_edge}
 
--- After i entries: the marks so far, and what the views in hand mark of the entries left, make the whole.
-pub record Marking (b : Board) (first views total : ℕ) (es : List Spot) (whole left marks : List ℕ) (full start i : ℕ) : Type 0 where
-  pub done : i ≤ total
-  pub all_views : length left ≡ 1024
-  pub all_marks : length marks ≡ 1025
-  pub rise : Rise 0 (take views left)
-  pub empty : full ≡ empties (take views left)
-  pub past : start ≡ edge b first views full
-  pub together : from i (noted (views_from b first (take views left)) (drop i es)) marks ≡ whole
+-- A view with nothing left shows nothing, and does not get less.
+full_one : (reach : Spot → ℕ) (i : ℕ) (vs : List (View Spot)) (xs : List Spot) → noted with_mark (view reach i 0 ∷ vs) xs ≡ noted with_mark vs xs
+full_one reach i vs [] = refl
+full_one reach i vs (x ∷ xs) =
+    by (ltb i (reach x))
+    (λ e. rw e (ap (λ (l : List Spot). cond (shows vs x) (with_mark x) x ∷ l) (full_one reach i (pass x vs) xs)))
+    (λ e. rw e (ap (λ (l : List Spot). cond (shows vs x) (with_mark x) x ∷ l) (full_one reach i (pass x vs) xs)))
 
-module _ {b : Board} {first views total : ℕ} {es : List Spot} {whole left marks : List ℕ} {full start i : ℕ}
-    (m : Marking b first views total es whole left marks full start i) (given : Numbered b first views) where
-  own : length (take views left) ≡ views
-  own = length-take-le views left (omega (arith, m.all_views, given.few))
+-- so those at the front may go
+full_gone : (reach : Spot → ℕ) (i : ℕ) (qs : List ℕ) (xs : List Spot) → noted with_mark (nested reach i qs) xs ≡ noted with_mark (nested reach (i + empties qs) (drop (empties qs) qs)) xs
+full_gone reach i [] xs = refl
+full_gone reach i (q ∷ qs) xs =
+    by (ltb 0 q)
+    (λ e. rw e (ap (λ n. noted with_mark (nested reach n (q ∷ qs)) xs) (omega arith)))
+    (λ e.
+    let z : q ≡ 0 = omega (arith, ltb-false 0 q e) in
+    let n : suc i + empties qs ≡ i + suc (empties qs) = omega arith in
+    rw e (ap (λ q. noted with_mark (view reach i q ∷ nested reach (suc i) qs) xs) z ∙ full_one reach i (nested reach (suc i) qs) xs ∙ full_gone reach (suc i) qs xs ∙ ap (λ m. noted with_mark (nested reach m (drop (empties qs) qs)) xs) n))
 
-  pub few : full ≤ views
-  few = omega (arith, m.empty, own, empties_few (take views left))
+-- where each has something left, none is empty
+none_empty : (qs : List ℕ) → Rise 1 qs → empties qs ≡ 0
+none_empty [] h = refl
+none_empty (q ∷ qs) h = rw (lt-ltb 0 q h.0)
 
-  module _ (short : total ≤ 1025) (h : i < total) {s : Spot} (early : s.tick < never) (head : drop i es ≡ s ∷ drop (i + 1) es) where
-    abbrev in_hand : List (View Spot)
-    in_hand = views_from b first (take views left)
+-- what stands where nothing does
+abbrev no_spot : Spot
+no_spot = record { entry = no_entry; bit = 0; marked = false }
 
-    abbrev held : ℕ
-    held = held_by b first views s
+abbrev pub in_hand : Views → List (View Spot)
+in_hand v = views_from v.board v.first v.left.now
 
-    by_last : shows in_hand s ≡ left_of held (take views left)
-    unfolding views_from
-    by_last = rw own at (nested_shows (reach_of b) first 0 (take views left) s m.rise)
+abbrev pub edge_of : Views → Option ℕ
+edge_of v = edge v.board v.first (length v.left.now)
 
-    by_edge : left_of held (take views left) ≡ ltb full held
-    by_edge = left_edge 0 held (take views left) m.rise (rw own (min-le_right _ views)) ∙ ap (λ n. ltb n held) (sym m.empty)
-
-    shown : shows in_hand s ≡ (leb start s.tick && counts_for b s)
-    shown = by_last ∙ by_edge ∙ sym (at_edge b first views full s given early) ∙ ap (λ n. leb n s.tick && counts_for b s) (sym m.past)
-
-    pub skips : (leb start s.tick && counts_for b s) ≡ false → Marking b first views total es whole left marks full start (i + 1)
-    skips e = record {
-      done = omega arith;
-      all_views = m.all_views;
-      all_marks = m.all_marks;
-      rise = m.rise;
-      empty = m.empty;
-      past = m.past;
-      together = sym (noted_passed in_hand s (drop (i + 1) es) marks i (omega (arith, m.all_marks)) (shown ∙ e)) ∙ rw head at m.together;
-    }
-
-    module _ (e : (leb start s.tick && counts_for b s) ≡ true) {less : List ℕ} (l : length less ≡ 1024)
-        (o : less ≡ from full (on_front (λ q. q - 1) (holding b first views s.tick - full)) left) where
-      all_held : holding b first views s.tick ≡ held
-      unfolding holding reach_of
-      all_held = let t = ((and-eq-true_iff (leb start s.tick) (counts_for b s)).0 e).1 in rw t
-
-      lowered : take views less ≡ on_front (λ q. q - 1) (reach_of b s - first) (take views left)
-      lowered =
-          ap (take views) (rw all_held at o ∙ sym (lower_past full held left (omega (arith, m.empty, empties_take views left))))
-          ∙ front_take (λ q. q - 1) views held left
-          ∙ rw own at (front_min (λ q. q - 1) (reach_of b s - first) (take views left))
-
-      pub still : full ≤ empties (take views less)
-      still = rw lowered (omega (arith, m.empty, empties_lower (reach_of b s - first) (take views left)))
-
-      passed : pass s in_hand ≡ views_from b first (take views less)
-      unfolding views_from
-      passed = rw lowered (nested_pass (reach_of b) first (take views left) s)
-
-      pub marks_it : {next behind : ℕ} → next ≡ full + empties (drop full (take views less)) → behind ≡ edge b first views next
-          → Marking b first views total es whole less (set marks i 1) next behind (i + 1)
-      marks_it {next} n p = record {
-        done = omega arith;
-        all_views = l;
-        all_marks = simp length-set m.all_marks;
-        rise = rw lowered (rise_lower 0 (reach_of b s - first) (take views left) m.rise);
-        empty = n ∙ empties_past full (take views less) still;
-        past = p;
-        together = rw passed at (sym (noted_shown in_hand s (drop (i + 1) es) marks i (omega (arith, m.all_marks)) (shown ∙ e)) ∙ rw head at m.together);
-      }
-
-  -- a board whose views are all full marks nothing more
-  pub marked_early : views ≤ full → marks ≡ whole
+module _ (v : Views) where
+  shown_at : (s : Spot) → shows (in_hand v) s ≡ (past (edge_of v) s.entry.tick && counts_for v.board s)
   unfolding views_from
-  marked_early h =
-      rw (noted_empty (reach_of b) first (take views left) (drop i es) (drop i marks) m.rise (omega (arith, m.empty, own)), take-append-drop) at m.together
+  shown_at s =
+      let held : ℕ = held_by v.board v.first (length v.left.now) s in
+      nested_shows (reach_of v.board) v.first 1 v.left.now s v.rise
+      ∙ left_edge 1 held v.left.now v.rise (min-le_right _ (length v.left.now))
+      ∙ ap (λ n. ltb n held) (none_empty v.left.now v.rise)
+      ∙ sym (at_edge v.board v.first (length v.left.now) s v.numbered)
 
-  pub marked_all : total ≤ i → length es ≤ total → marks ≡ whole
-  marked_all h l = rw (drop_of_length-le es {i = i} (omega arith), take-append-drop) at m.together
+  -- with no edge, nothing more is marked
+  pub marked_early : (line : List Spot) (i : ℕ) {whole : List Spot} → (edge_of v) ≡ None → from i (noted with_mark (in_hand v)) line ≡ whole → line ≡ whole
+  marked_early line i e t =
+      rw (noted_idle with_mark (in_hand v) (drop i line) (λ s. shown_at s ∙ ap (λ o. past o s.entry.tick && counts_for v.board s) e), take-append-drop) at t
+
+  module _ (start : ℕ) (here : Some start ≡ (edge_of v)) (line : List Spot) (i : ℕ) (h : i < length line) {whole : List Spot} (together : from i (noted with_mark (in_hand v)) line ≡ whole) where
+    abbrev pub spot : Spot
+    spot = get_or line i no_spot
+
+    shown : shows (in_hand v) spot ≡ (leb start spot.entry.tick && counts_for v.board spot)
+    shown = shown_at spot ∙ ap (λ o. past o spot.entry.tick && counts_for v.board spot) (sym here)
+
+    pub skips : (leb start spot.entry.tick && counts_for v.board spot) ≡ false → from (i + 1) (noted with_mark (in_hand v)) line ≡ whole
+    skips e = sym (noted_passed with_mark (in_hand v) line i no_spot h (shown ∙ e)) ∙ together
+
+    -- what is shown is marked, and the views go on with what they have left
+    module _ (e : (leb start spot.entry.tick && counts_for v.board spot) ≡ true) where
+      abbrev pub less : List ℕ
+      less = lowered v.board v.first spot.entry.tick v.left.now
+
+      passed : pass spot (in_hand v) ≡ nested (reach_of v.board) v.first less
+      unfolding views_from lowered reach_of
+      passed =
+          let t = ((and-eq-true_iff (leb start spot.entry.tick) (counts_for v.board spot)).0 e).1 in
+          nested_pass (reach_of v.board) v.first v.left.now spot ∙ ap (nested (reach_of v.board) v.first) (sym (front_min (λ q. q - 1) (reach_of v.board spot - v.first) v.left.now) ∙ rw t)
+
+      pub marks_it : (w : Views) → w.board ≡ v.board → w.first ≡ v.first + empties less → w.left.now ≡ drop (empties less) less
+          → from (i + 1) (noted with_mark (in_hand w)) (set line i (with_mark spot)) ≡ whole
+      unfolding views_from
+      marks_it w b n d =
+          rw (b, n, d) (
+          ap (λ l. take (i + 1) (set line i (with_mark spot)) ++ l) (sym (ap (λ vs. noted with_mark vs (drop (i + 1) (set line i (with_mark spot)))) passed ∙ full_gone (reach_of v.board) v.first less (drop (i + 1) (set line i (with_mark spot)))))
+          ∙ sym (noted_shown with_mark (in_hand v) line i no_spot h (shown ∙ e)) ∙ together
+          )
+
+-- at the line's end nothing is left to mark
+pub marked_all : (vs : List (View Spot)) (line : List Spot) (i : ℕ) {whole : List Spot} → length line ≤ i → from i (noted with_mark vs) line ≡ whole → line ≡ whole
+marked_all vs line i h t =
+    let z : drop i line ≡ [] = drop_of_length-le line {i = i} h in
+    sym (rw z at (take-append-drop i line)) ∙ (rw z at t)
 
 -- The walk begins with k left in each view.
-pub starts : (stood : List ℕ) {b : Board} {first views total : ℕ} {es : List Spot} {left marks : List ℕ} {full start : ℕ} → Numbered b first views → length marks ≡ 1025 → length stood ≡ 1024 → length left ≡ 1024
-    → left ≡ from 0 (on_front (λ _. b.k) views) stood → full ≡ 0 + empties (drop 0 (take views left)) → start ≡ edge b first views full
-    → Marking b first views total es (noted (views_from b first (replicate views b.k)) es marks) left marks full start 0
-starts stood {b} {first} {views} {left = left} given m s l o f p =
-    let z : take views left ≡ replicate views b.k = rw o (front_same b.k views stood (omega (arith, given.few))) in
-    record {
-      done = omega arith;
-      all_views = l;
-      all_marks = m;
-      rise = rw z (rise_all b.k views);
-      empty = f ∙ zero-add _;
-      past = p;
-      together = rw z;
-    }
+pub starts : (b : Board) (n : ℕ) (line : List Spot) (v : Views) {first : ℕ} {all : List ℕ} → all ≡ replicate (cells b) b.k → first ≡ upto b n → v.board ≡ b → v.first ≡ first + empties all → v.left.now ≡ drop (empties all) all
+    → noted with_mark (in_hand v) line ≡ noted with_mark (views_from b (upto b n) (replicate (cells b) b.k)) line
+unfolding views_from
+starts b n line v {first} {all} a u o f l = rw (o, f, l, u) (sym (full_gone (reach_of b) (upto b n) all line) ∙ ap (λ qs. noted with_mark (nested (reach_of b) (upto b n) qs) line) a)

@@ -4,9 +4,10 @@ use mathlib.Core.List.{List}
 use mathlib.Core.Bool.{true, false, and-eq-true_iff}
 use Prim.Native.Nat.{ℕ, ◌+◌, ◌≤◌, ◌<◌}
 use borrow.Author.Tests.{leb-true, le-leb}
-use lib.ListN.{length, take, drop, get_or}
+use native.Mathlib.Numerals.{add-one}
+use lib.ListN.{length, drop, get_or, drop_of_length-le}
+use lib.Seq.{drop-cons}
 use Rattle.lists.proofs.Bools.{untrue}
-use Rattle.lists.proofs.Turns.{turn, turned}
 use Rattle.rules.specs.Desk.{need, needs, no_board}
 use Rattle.rules.specs.Cells.{cells}
 use Rattle.rules.specs.declared.Board.{Board}
@@ -30,15 +31,15 @@ module _ (bs : List Board) (count len : ℕ) where
 
 -- The sums of the boards from number i on
 
-module _ (boards : List Board) (count i : ℕ) (few : count ≤ length boards) where
-  pub cells_rest : i < count → sum_cells (drop i (take count boards)) ≡ cells (get_or boards i no_board) + sum_cells (drop (i + 1) (take count boards))
+module _ (boards : List Board) (i : ℕ) where
+  pub cells_rest : i < length boards → sum_cells (drop i boards) ≡ cells (get_or boards i no_board) + sum_cells (drop (i + 1) boards)
   unfolding sum_cells
-  cells_rest h = rw (turn boards count no_board few i h)
+  cells_rest h = rw (drop-cons boards i no_board h, add-one)
 
-  pub needs_rest : i < count → needs (drop i (take count boards)) ≡ need (get_or boards i no_board) + needs (drop (i + 1) (take count boards))
+  pub needs_rest : i < length boards → needs (drop i boards) ≡ need (get_or boards i no_board) + needs (drop (i + 1) boards)
   unfolding needs
-  needs_rest h = rw (turn boards count no_board few i h)
+  needs_rest h = rw (drop-cons boards i no_board h, add-one)
 
-  pub none_rest : count ≤ i → (sum_cells (drop i (take count boards)) ≡ 0) × (needs (drop i (take count boards)) ≡ 0)
+  pub none_rest : length boards ≤ i → (sum_cells (drop i boards) ≡ 0) × (needs (drop i boards) ≡ 0)
   unfolding sum_cells needs
-  none_rest h = rw (turned boards count no_board few i h) (refl, refl)
+  none_rest h = rw (drop_of_length-le boards {i = i} h) (refl, refl)

@@ -1,5 +1,5 @@
 -- The shared list after a step and after a request: what the future views still show of its entries. A desk that the walk cannot hold stays as it stands.
-use Rattle.std.specs.Prelude.{List, [], ◌∷◌, Bool, cond, ◌&&◌, ℕ, zero, suc, ◌+◌, ◌≤◌, leb}
+use Rattle.std.specs.Prelude.{List, [], ◌∷◌, Bool, cond, ◌&&◌, ℕ, ◌+◌, ◌≤◌, leb, Option, Some, None}
 use Rattle.lists.specs.Views.{sift}
 use Rattle.rules.specs.Desk.{loaded, listed, needs}
 use Rattle.rules.specs.Cells.{cells, cell_views}
@@ -33,10 +33,10 @@ thinned_to d n = cond (walkable d) (with_list d n (sift (cell_views (loaded d) n
 unfoldable pub with_entry : Desk → Entry → Desk
 with_entry d e = cond (walkable d) (with_list d d.time.clock (sift (cell_views (loaded d) d.time.clock) (placed e (listed d)))) d
 
--- Both in one: the entries, with so many of a new one at its place, one or none.
-abbrev pub arrived : Entry → ℕ → List Entry → List Entry
-arrived new zero es = es
-arrived new (suc n) es = placed new es
+-- Both in one: the entries, with the new one, if there is one, at its place.
+abbrev pub arrived : Option Entry → List Entry → List Entry
+arrived None es = es
+arrived (Some e) es = placed e es
 
-abbrev pub walked_to : Desk → ℕ → Entry → ℕ → Desk
-walked_to d clock new waiting = with_list d clock (sift (cell_views (loaded d) clock) (arrived new waiting (listed d)))
+abbrev pub walked_to : Desk → ℕ → Option Entry → Desk
+walked_to d clock new = with_list d clock (sift (cell_views (loaded d) clock) (arrived new (listed d)))

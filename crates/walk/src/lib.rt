@@ -1,325 +1,239 @@
 // The walk that keeps the shared list: each board alone marks what it shows, best first, and what has a mark stays.
 #![tactic(auto)]
 
-ghost use Rattle.std.specs.Prelude.{◌≡◌, cond, ◌&&◌, ◌+◌, ◌-◌, ◌≤◌, ◌<◌, ltb, leb, length, take, drop, replicate};
+ghost use Rattle.std.specs.Prelude.{◌≡◌, cond, ◌&&◌, ◌++◌, ◌+◌, ◌-◌, ◌≤◌, ◌<◌, ltb, leb, length, take, drop, map, replicate};
 ghost use Rattle.std.specs.Int.Bits.{bit_and};
-ghost use Rattle.lists.specs.Nested.{empties, on_front, from};
+ghost use Rattle.lists.specs.Nested.{empties as empties_of, Rise};
 ghost use Rattle.lists.specs.Marks.{noted};
-ghost use Rattle.rules.specs.Desk.{names};
-ghost use Rattle.rules.specs.Moments.{moment as moment_of, upto};
+ghost use Rattle.rules.specs.Moments.{upto};
 ghost use Rattle.rules.specs.Cells.{cells};
-ghost use Rattle.walk.specs.Walk.{sum_cells, holdable, walkable, walked_to, thinned_to, with_entry};
-ghost use Rattle.walk.specs.Line.{met_at, bit_of, named_bits, spots};
-ghost use Rattle.walk.specs.Edges.{views_from, board_views, Numbered, holding, never, edge as edge_of};
+ghost use Rattle.rules.specs.SharedList.{settled};
+ghost use Rattle.walk.specs.Walk.{sum_cells, walkable, arrived, walked_to, thinned_to, with_entry};
+ghost use Rattle.walk.specs.Line.{bit_of, named_bits, spot_of, with_mark, entry_of, kept};
+ghost use Rattle.walk.specs.Edges.{views_from, board_views, Numbered, lowered, edge, rise_prop};
 
-use rules::{Board, Desk, Entry, Time};
+use rules::{Board, Desk, Entry, LIMIT};
 
-// What stands next in the line and its place on the list, 1,024 for a new entry; where the list goes on, and how many new entries wait then: one or none.
+// What stands at the places behind the list's end.
+const NO_ENTRY: Entry = Entry {
+    id: 0,
+    score: 0,
+    tick: 0,
+    topic: 0,
+};
+
+// An entry in line, the bit of its topic, and whether some board has marked it.
 #[derive(Clone, Copy)]
-struct Met {
+struct Spot {
     entry: Entry,
-    place: u16,
-    at: usize,
-    waiting: usize,
+    bit: u8,
+    marked: bool,
 }
 
-// Each sum is tested before it grows, so none passes 1,024 and none wraps.
-fn is_holdable(boards: [Board; 32], count: usize, len: usize) -> bool
-    ensures { result ≡ holdable (take count boards) count len }
-{
-    if 32 < count {
-        return false;
-    }
-    if 1024 < len {
-        return false;
-    }
-    let mut cells: usize = 0;
-    let mut needs: usize = 0;
-    let mut b: usize = 0;
-    while b < count {
-        let board = boards[b];
-        let more_cells = board.cells();
-        if 1024 - cells < more_cells {
-            return false;
-        }
-        let more_needs = board.need();
-        if 1024 - needs < more_needs {
-            return false;
-        }
-        cells += more_cells;
-        needs += more_needs;
-        b += 1;
-    }
-    true
-}
-
-// The moment of a board's view of this number.
-#[tactic(auto, unfolding(rules::specs::Moments::moment))]
-fn moment(board: Board, first: usize, views: usize, view: usize) -> usize
-    requires { Numbered board first views × (view ≤ views) }
-    ensures { result ≡ moment_of board (first + view) }
-{
-    (first + view + 1) * board.slide as usize
-}
-
-// The first tick that the board still shows when so many of its views are full.
-#[tactic(auto, unfolding(crate::specs::Edges::edge))]
-fn edge(board: Board, first: usize, views: usize, full: usize) -> usize
-    requires { Numbered board first views }
-    ensures { result ≡ edge_of board first views full }
-{
-    if full < views {
-        let at = moment(board, first, views, full);
-        if at <= 1000000000 {
-            return at.saturating_sub(board.window as usize);
+impl Spot {
+    // Past the eighth topic the bit is none, for no board names it.
+    fn of(entry: Entry) -> Spot
+        ensures { result ≡ spot_of entry }
+    {
+        Spot {
+            entry,
+            bit: 1u8.checked_shl(entry.topic).unwrap_or(0),
+            marked: false,
         }
     }
-    4294967296
+
+    // Whether a board that names these topics, and whose edge is this, shows the entry. It is one test and not two: seldom true, so that the processor foretells it.
+    fn is_shown(&self, topics: u32, edge: u32) -> bool
+        ensures { result ≡ (leb edge self.now.entry.tick && ltb 0 (bit_and topics self.now.bit)) }
+    {
+        let bit = if edge <= self.entry.tick { self.bit } else { 0 };
+        0 < topics & u32::from(bit)
+    }
 }
 
-// The first view that has something left, from this one on; where none has, the number of views.
-fn first_left(left: &[u32; 1024], from: usize, views: usize) -> usize
-    requires { (length left.now ≡ 1024) × (from ≤ views) × (views ≤ 1024) }
-    ensures { result ≡ from + empties (drop from (take views left.now)) }
-{
-    let mut at = from;
-    while at < views {
-        if 0 < left[at] {
-            return at;
+// One board's views that have something left: the number of the first one's moment, and what each has left, no less than the one before it.
+#[derive(Drop)]
+struct Views<'a> {
+    board: Board,
+    first: usize,
+    left: &'a mut [u32],
+    ghost numbered: { Numbered board first (length left.now) },
+    ghost rise: { Rise 1 left.now } by { rise_prop 1 left.now },
+}
+
+impl<'a> Views<'a> {
+    // Of the views from this number on, those that have something left.
+    #[tactic(auto, using(lists::proofs::Nested::empties_few))]
+    fn new(board: Board, first: usize, left: &'a mut [u32]) -> Self
+        requires numbered { Numbered board first (length left.old) }
+        requires rise { Rise 0 left.old }
+        ensures board { result.board ≡ board }
+        ensures first { result.first ≡ first + empties_of left.old }
+        ensures left { result.left.now ≡ drop (empties_of left.old) left.old }
+    {
+        let full = empties(left);
+        Views {
+            board,
+            first: first + full,
+            left: &mut left[full..],
         }
-        at += 1;
     }
-    at
-}
 
-fn one_less(n: u32) -> u32
-    ensures { result ≡ n - 1 }
-{
-    if n == 0 { 0 } else { n - 1 }
-}
-
-// Each view behind the full ones that holds a request of this tick has one less left.
-fn lower(left: &mut [u32; 1024], board: Board, first: usize, views: usize, full: usize, tick: u32)
-    requires { (length left.old ≡ 1024) × Numbered board first views × (full ≤ views) }
-    ensures { (length left.new ≡ 1024) × (left.new ≡ from full (on_front (λ q. q - 1) (holding board first views tick - full)) left.old) }
-{
-    let slide = board.slide as usize;
-    let last = (tick as usize + board.window as usize).min(1000000000);
-    let mut view = full;
-    let mut at = moment(board, first, views, full);
-    while view < views {
-        if last < at {
-            return;
+    // The first tick that some view holds; none where none holds any.
+    #[tactic(auto, unfolding(crate::specs::Edges::edge, rules::specs::Moments::moment))]
+    fn edge(&self) -> Option<u32>
+        ensures { result ≡ edge self.now.board self.now.first (length self.now.left.now) }
+    {
+        let at = (self.first + 1) * self.board.slide as usize;
+        if self.left.is_empty() || at > LIMIT as usize {
+            return None;
         }
-        let count = left[view];
-        left[view] = one_less(count);
-        view += 1;
-        at += slide;
+        Some((at as u32).saturating_sub(self.board.window))
+    }
+
+    // The views once an entry of this tick is shown: those that hold it have one less left.
+    fn lower(self, tick: u32) -> Self
+        ensures board { result.board ≡ self.entry.board }
+        ensures first { result.first ≡ self.entry.first + empties_of (lowered self.entry.board self.entry.first tick self.entry.left.now) }
+        ensures left { result.left.now ≡ (let less = lowered self.entry.board self.entry.first tick self.entry.left.now in drop (empties_of less) less) }
+    {
+        let Views { board, first, left } = self;
+        let last = tick as usize + board.window as usize;
+        let held = board
+            .moments_upto(last)
+            .saturating_sub(first)
+            .min(left.len());
+        for left in &mut left[..held] {
+            *left -= 1;
+        }
+        Views::new(board, first, left)
     }
 }
 
-// The bit of a topic; past the eighth topic none, for no board names it.
-fn bit(topic: u32) -> u8
-    ensures { result ≡ bit_of topic }
+// How many at the front have nothing left.
+fn empties(left: &[u32]) -> usize
+    ensures { result ≡ empties_of left.now }
 {
-    if topic < 8 {
-        return 1u8 << topic;
-    }
-    0
+    left.iter().take_while(|left| **left == 0).count()
 }
 
-// The bits of the topics that a board names.
-fn named(board: Board) -> u32
+// The topics that a board names, a bit for each.
+fn topics(board: Board) -> u32
     ensures { result ≡ named_bits board }
 {
-    let mask = board.mask;
-    if mask == 0 { 255 } else { mask }
+    if board.mask == 0 { 255 } else { board.mask }
 }
 
-// An entry's bits, if its tick is not before the edge.
-fn past(from: usize, tick: u32, bits: u8) -> u8
-    ensures { result ≡ cond (leb from tick) bits 0 }
+// One board alone marks what it shows of the line, best first.
+fn mark(board: Board, clock: u32, left: &mut [u32; 1024], line: &mut [Spot])
+    requires { cells board ≤ 1024 }
+    ensures { line.new ≡ noted with_mark (views_from board (upto board clock) (replicate (cells board) board.k)) line.old }
 {
-    if from <= tick as usize { bits } else { 0 }
-}
-
-// Whether a board that names these topics, and whose edge is this, shows an entry. It is one test and not two: seldom true, so that the processor foretells it.
-fn is_shown(named: u32, from: usize, tick: u32, bits: u8) -> bool
-    ensures { (result ≡ (leb from tick && ltb 0 (bit_and named bits))) × (tick < never) }
-{
-    let here = past(from, tick, bits);
-    0 < named & here as u32
-}
-
-// k in each of the first views.
-fn fill(left: &mut [u32; 1024], views: usize, k: u32)
-    requires { (length left.old ≡ 1024) × (views ≤ 1024) }
-    ensures { (length left.new ≡ 1024) × (left.new ≡ from 0 (on_front (λ _. k) views) left.old) }
-{
-    let mut i: usize = 0;
-    while i < views {
-        left[i] = k;
-        i += 1;
-    }
-}
-
-// One board alone marks what it shows of the line.
-fn mark(
-    board: Board,
-    clock: u32,
-    ticks: &[u32; 1025],
-    bits: &[u8; 1025],
-    total: usize,
-    left: &mut [u32; 1024],
-    marks: &mut [u8; 1025],
-)
-    requires { (length ticks.now ≡ 1025) × (length bits.now ≡ 1025) × (length left.old ≡ 1024) × (length marks.old ≡ 1025) × (total ≤ 1025) × (cells board ≤ 1024) }
-    ensures { (length left.new ≡ 1024) × (length marks.new ≡ 1025) × (marks.new ≡ noted (views_from board (upto board clock) (replicate (cells board) board.k)) (spots (take total ticks.now) (take total bits.now)) marks.old) }
-{
-    let views = board.cells();
-    let first = board.moments_upto(clock as usize);
-    let topics = named(board);
-    fill(left, views, board.k);
-    let mut full = first_left(left, 0, views);
-    let mut from = edge(board, first, views, full);
-    let mut i: usize = 0;
-    while i < total {
-        let at = i;
-        let tick = ticks[at];
-        i += 1;
-        if is_shown(topics, from, tick, bits[at]) {
-            marks[at] = 1;
-            lower(left, board, first, views, full, tick);
-            full = first_left(left, full, views);
-            if views <= full {
+    let topics = topics(board);
+    let left = &mut left[..board.cells()];
+    left.fill(board.k);
+    let mut views = Views::new(board, board.moments_upto(clock as usize), left);
+    let Some(mut edge) = views.edge() else {
+        return;
+    };
+    for spot in line {
+        if spot.is_shown(topics, edge) {
+            spot.marked = true;
+            views = views.lower(spot.entry.tick);
+            let Some(next) = views.edge() else {
                 return;
-            }
-            from = edge(board, first, views, full);
+            };
+            edge = next;
         }
     }
 }
 
 // Each board marks what it shows.
-fn mark_all(
-    boards: [Board; 32],
-    count: usize,
-    clock: u32,
-    ticks: &[u32; 1025],
-    bits: &[u8; 1025],
-    total: usize,
-    marks: &mut [u8; 1025],
-)
-    requires { (length ticks.now ≡ 1025) × (length bits.now ≡ 1025) × (length marks.old ≡ 1025) × (total ≤ 1025) × (count ≤ 32) × (sum_cells (take count boards) ≤ 1024) }
-    ensures { (length marks.new ≡ 1025) × (marks.new ≡ noted (board_views (take count boards) clock) (spots (take total ticks.now) (take total bits.now)) marks.old) }
+fn mark_all(boards: &[Board], clock: u32, line: &mut [Spot])
+    requires { sum_cells boards.now ≤ 1024 }
+    ensures { line.new ≡ noted with_mark (board_views boards.now clock) line.old }
 {
-    let mut left = [0u32; 1024];
-    let mut b: usize = 0;
-    while b < count {
-        let board = boards[b];
-        mark(board, clock, ticks, bits, total, &mut left, marks);
-        b += 1;
+    let mut left = [0; 1024];
+    for board in boards {
+        mark(*board, clock, &mut left, line);
     }
 }
 
-// A new entry stands before the first whose score is below its own, or at the list's end.
-#[tactic(auto, unfolding(crate::specs::Line::met_at))]
-fn meet(new: Entry, waiting: usize, old: Entry, at: usize, len: usize) -> Met
-    requires { at ≤ 1024 }
-    ensures { result ≡ met_at new waiting old at len }
+// The list in line, with the new entry before the first whose score is below its own, or at the end.
+fn line_up<'a>(listed: &[Entry], new: Option<Entry>, line: &'a mut [Spot; 1025]) -> &'a mut [Spot]
+    requires { length listed.now ≤ 1024 }
+    ensures { result.now ≡ map spot_of (arrived new listed.now) }
 {
-    let place = at as u16;
-    let next = at + 1;
-    if 0 < waiting {
-        if old.score < new.score || len <= at {
-            return Met {
-                entry: new,
-                place: 1024,
-                at,
-                waiting: 0,
-            };
+    let mut waiting = new;
+    let mut total = 0;
+    for entry in listed {
+        if let Some(new) = waiting
+            && entry.score < new.score
+        {
+            line[total] = Spot::of(new);
+            total += 1;
+            waiting = None;
         }
-    }
-    Met {
-        entry: old,
-        place,
-        at: next,
-        waiting,
-    }
-}
-
-fn wide(place: u16) -> usize
-    ensures { result ≡ place }
-{
-    place as usize
-}
-
-// The walk over the list and the new entries that wait, one or none. They stand in line by their places, ticks and bits, columns that can be lent; each
-// board marks what it shows of them; and what has a mark is kept. A desk that the walk cannot hold stays as it stands. Both loops stand here, for a function
-// over the list would copy it.
-fn walk(desk: Desk, clock: u32, new: Entry, waiting: usize) -> Desk
-    requires { waiting ≤ 1 }
-    ensures { result ≡ cond (walkable desk) (walked_to desk clock new waiting) desk }
-{
-    let boards = desk.boards;
-    let count = desk.count;
-    let len = desk.len;
-    let fits = is_holdable(boards, count, len);
-    if !fits {
-        return desk;
-    }
-    let phase = desk.time.phase;
-    let none = Entry {
-        id: 0,
-        score: 0,
-        tick: 0,
-        topic: 0,
-    };
-    let mut entries = desk.entries;
-    let mut places = [0u16; 1025];
-    let mut ticks = [0u32; 1025];
-    let mut bits = [0u8; 1025];
-    let mut at: usize = 0;
-    let mut waits = waiting;
-    let mut total: usize = 0;
-    while at < len + waits {
-        // Past the last entry of the list the new one is next. A place that was read is cleared.
-        let mut old = new;
-        if at < len {
-            old = desk.entries[at];
-            entries[at] = none;
-        }
-        let met = meet(new, waits, old, at, len);
-        at = met.at;
-        waits = met.waiting;
-        places[total] = met.place;
-        ticks[total] = met.entry.tick;
-        bits[total] = bit(met.entry.topic);
+        line[total] = Spot::of(*entry);
         total += 1;
     }
-    let mut marks = [0u8; 1025];
-    mark_all(boards, count, clock, &ticks, &bits, total, &mut marks);
-    let mut kept: usize = 0;
-    let mut i: usize = 0;
-    while i < total {
-        let next = i;
-        i += 1;
-        if 0 < marks[next] {
-            let place = wide(places[next]);
-            let mut e = new;
-            if place < len {
-                e = desk.entries[place];
-            }
-            entries[kept] = e;
-            kept += 1;
+    if let Some(new) = waiting {
+        line[total] = Spot::of(new);
+        total += 1;
+    }
+    &mut line[..total]
+}
+
+// What has a mark is the list now, with zeros behind it up to the old length.
+fn keep(line: &[Spot], len: usize, entries: &mut [Entry; 1024]) -> usize
+    requires fits { length (kept line.now) ≤ 1024 }
+    requires short { len ≤ 1024 }
+    ensures now { result ≡ length (kept line.now) }
+    ensures list { entries.new ≡ settled len entries.old (kept line.now) }
+{
+    let mut now = 0;
+    for spot in line {
+        if spot.marked {
+            entries[now] = spot.entry;
+            now += 1;
         }
     }
-    Desk {
-        time: Time { clock, phase },
-        count,
-        boards,
-        len: kept,
-        entries,
+    entries[now..len.max(now)].fill(NO_ENTRY);
+    now
+}
+
+// Whether the walk can hold the desk; each sum is tested as it grows.
+#[tactic(auto, using(std::proofs::lemmas::Bool::Decides::nat_tests, crate::proofs::Walkable::cells_rest, crate::proofs::Walkable::needs_rest, crate::proofs::Walkable::none_rest), unfolding(crate::specs::Walk::holdable))]
+fn is_holdable(desk: &Desk) -> bool
+    ensures { result ≡ walkable desk.now }
+{
+    if 32 < desk.count || 1024 < desk.len {
+        return false;
     }
+    let mut cells: usize = 0;
+    let mut needs: usize = 0;
+    for board in desk.loaded() {
+        cells = cells.saturating_add(board.cells());
+        needs = needs.saturating_add(board.need());
+        if 1024 < cells || 1024 < needs {
+            return false;
+        }
+    }
+    true
+}
+
+// The walk over the list and the new entry, if there is one. A desk that the walk cannot hold stays as it stands.
+fn walk(desk: &mut Desk, clock: u32, new: Option<Entry>)
+    ensures { desk.new ≡ cond (walkable desk.old) (walked_to desk.old clock new) desk.old }
+{
+    if !is_holdable(desk) {
+        return;
+    }
+    let mut line = [Spot::of(NO_ENTRY); 1025];
+    let line = line_up(desk.listed(), new, &mut line);
+    mark_all(desk.loaded(), clock, line);
+    desk.len = keep(line, desk.len, &mut desk.entries);
+    desk.time.clock = clock;
 }
 
 // The list after a step to this clock.
@@ -327,14 +241,7 @@ fn walk(desk: Desk, clock: u32, new: Entry, waiting: usize) -> Desk
 pub fn thin(desk: &mut Desk, clock: u32)
     ensures { desk.new ≡ thinned_to desk.old clock }
 {
-    let none = Entry {
-        id: 0,
-        score: 0,
-        tick: 0,
-        topic: 0,
-    };
-    let stood = *desk;
-    *desk = walk(stood, clock, none, 0);
+    walk(desk, clock, None);
 }
 
 // The list after a request at the desk's clock.
@@ -342,6 +249,5 @@ pub fn thin(desk: &mut Desk, clock: u32)
 pub fn add(desk: &mut Desk, e: Entry)
     ensures { desk.new ≡ with_entry desk.old e }
 {
-    let stood = *desk;
-    *desk = walk(stood, stood.time.clock, e, 1);
+    walk(desk, desk.time.clock, Some(e));
 }
