@@ -1,6 +1,6 @@
 -- Each part that is copied in stands in the bytes, and together they are the row of the message's own fields.
 use Rattle.message.proofs.Writing.{own_kind_small, own_byte_small, row_encoded}
-use Rattle.message.proofs.encode.Goals as goal
+use Rattle.message.proofs.Known.encode.Goals as goal
 
 pub returns : goal.returns
 returns c =
@@ -17,4 +17,4 @@ returns c =
       c.to_be_bytes-4.ensures,
       c.own-own.ensures,
     )
-    (row_encoded c.args.message (own_kind_small c.args.message c.args.kind c.requires.0) (own_byte_small c.args.message c.requires.1))
+    (row_encoded c.args.self.message (own_kind_small c.args.self.message c.args.self.kind c.args.self.named) (own_byte_small c.args.self.message c.requires))
