@@ -171,7 +171,7 @@ impl Known {
     }
 
     // The message's bytes.
-    #[tactic(auto, using(crate::proofs::Writing::own_kind_small, crate::proofs::Writing::own_byte_small))]
+    #[tactic(auto, using(crate::proofs::Writing::own_kind_small, crate::proofs::Writing::own_byte_small, crate::proofs::Writing::row_encoded))]
     fn encode(self) -> [u8; SIZE]
         requires { fields_fit self.message ≡ true }
         ensures { result ≡ encoded 1 self.message }
