@@ -11,8 +11,8 @@ use Rattle.rules.specs.Calls.{reader_call, writer_call, placed_at}
 use Rattle.rules.specs.Calls.Reply.{accepted}
 use Rattle.rules.specs.Messages.{number_at, own, encoded, rest}
 use Rattle.rules.specs.declared.Message.{Message}
-use Rattle.message.specs.Encoding.{Bytes, Words}
-use Rattle.message.proofs.Parts.{numbers, message_own, own_own}
+use Rattle.message.specs.Encoding.{Bytes, Words, numbers}
+use Rattle.message.proofs.Parts.{message_own, own_own}
 use Rattle.message.proofs.Standing.{stands_accepted, stands_encoded, none, accepted_stands, encoded_length, written_stands, written}
 
 -- a message's own fields, with its version, at the front of bytes; behind it stand others

@@ -5,7 +5,6 @@ pub mod Named
 pub mod Numbers
 pub mod Parts
 pub mod Placing
-pub mod Reading
 pub mod Standing
 pub mod Tight
 pub mod Writing

@@ -26,6 +26,7 @@ use Rattle.rules.specs.Messages.{
   fields_fit,
 }
 use Rattle.rules.specs.declared.Message.{Message}
+use Rattle.message.specs.Encoding.{numbers}
 
 abbrev pub Each : (Part → Type 0) → List Part → Type 0
 Each P [] = Unit {0}
@@ -84,17 +85,6 @@ given_back given m =
     (refl, (refl, (refl, (refl, (refl, tt)))))
     (refl, (refl, (refl, (refl, (refl, tt)))))
     (refl, (refl, (refl, (refl, (refl, tt)))))
-
--- all numbers that stand in the parts of a board, whatever the kind
-abbrev pub numbers : List ℕ → Message
-numbers bytes =
-    record {
-      kind = kind_at bytes;
-      byte = number_at bytes 6 1;
-      first = number_at bytes 8 4;
-      second = number_at bytes 12 4;
-      third = number_at bytes 16 4;
-    }
 
 pub message_own : (bytes : List ℕ) → own (numbers bytes) ≡ message bytes
 unfolding own message layout

@@ -5,8 +5,9 @@
 ghost use Rattle.std.specs.Prelude.{◌≡◌, ◌≤◌, true, length, Ok, eqb};
 ghost use Rattle.lists.specs.Views.{all};
 ghost use Rattle.rules.specs.Calls.{reader_call, writer_call};
-ghost use Rattle.rules.specs.Messages.{mark, big_endian, kind_at, zeros_stand, message, own, encoded, fields_fit, rest};
+ghost use Rattle.rules.specs.Messages.{mark, big_endian, kind_at, zeros_stand, own, encoded, fields_fit, rest};
 ghost use Rattle.rules.specs.Replies.{replied, kind_of};
+ghost use Rattle.message.specs.Encoding.{numbers};
 ghost use Rattle.message.specs.Outcomes.{wrote};
 
 use rules::{Board, Kind, Message, Refusal};
@@ -31,7 +32,8 @@ pub fn read(bytes: &[u8]) -> Result<Message, Refusal>
     read_front(front)
 }
 
-#[tactic(auto, using(crate::proofs::Reading::kind_byte, crate::proofs::Parts::message_kind, std::proofs::lemmas::Bool::Decides::nat_tests), unfolding(rules::specs::Calls::reader_call))]
+// The same of just 20 bytes: the array's type says that they are there.
+#[tactic(auto, using(crate::proofs::Numbers::kind_byte, crate::proofs::Parts::message_own, crate::proofs::Parts::own_fits, std::proofs::lemmas::Bool::Decides::nat_tests), unfolding(rules::specs::Calls::reader_call))]
 fn read_front(bytes: &[u8; SIZE]) -> Result<Message, Refusal>
     ensures { replied result ≡ reader_call bytes.now }
 {
@@ -45,9 +47,12 @@ fn read_front(bytes: &[u8; SIZE]) -> Result<Message, Refusal>
     if !zeros_stand(kind, bytes) {
         return Err(Refusal::Nonzero);
     }
-    let message = fields(kind, bytes);
-    if fields_fit(kind, message) {
-        Ok(message)
+    let known = Known {
+        kind,
+        message: fields(bytes),
+    };
+    if known.fits() {
+        Ok(known.own())
     } else {
         Err(Refusal::Range)
     }
@@ -73,45 +78,17 @@ fn number(bytes: &[u8]) -> u32
     value
 }
 
-#[tactic(auto, using(crate::proofs::Reading::kind_byte, crate::proofs::Reading::fields_own))]
-fn fields(kind: Kind, bytes: &[u8; SIZE]) -> Message
-    requires { kind_of (kind_at bytes.now) ≡ Ok kind }
-    ensures { result ≡ message bytes.now }
+// The numbers at a board's places, whatever the kind.
+#[tactic(auto, using(crate::proofs::Numbers::kind_byte, crate::proofs::Numbers::field_byte))]
+fn fields(bytes: &[u8; SIZE]) -> Message
+    ensures { result ≡ numbers bytes.now }
 {
-    own(
-        kind,
-        Message {
-            kind: u32::from(bytes[5]),
-            byte: u32::from(bytes[6]),
-            first: number(&bytes[8..12]),
-            second: number(&bytes[12..16]),
-            third: number(&bytes[16..]),
-        },
-    )
-}
-
-// The fields that the kind has, and 0 for the others.
-#[tactic(auto, unfolding(rules::specs::Messages::own, rules::specs::Messages::layout))]
-fn own(kind: Kind, fields: Message) -> Message
-    requires { kind_of fields.kind ≡ Ok kind }
-    ensures { result ≡ own fields }
-{
-    match kind {
-        Kind::Board => fields,
-        Kind::Request => Message { third: 0, ..fields },
-        Kind::Open => Message {
-            byte: 0,
-            first: 0,
-            second: 0,
-            third: 0,
-            ..fields
-        },
-        Kind::Clock => Message {
-            byte: 0,
-            second: 0,
-            third: 0,
-            ..fields
-        },
+    Message {
+        kind: u32::from(bytes[5]),
+        byte: u32::from(bytes[6]),
+        first: number(&bytes[8..12]),
+        second: number(&bytes[12..16]),
+        third: number(&bytes[16..]),
     }
 }
 
@@ -136,23 +113,79 @@ fn zeros_stand(kind: Kind, bytes: &[u8; SIZE]) -> bool
     }
 }
 
-// The fields of a message are in their ranges.
-#[tactic(auto, unfolding(rules::specs::Messages::fields_fit))]
-fn fields_fit(kind: Kind, fields: Message) -> bool
-    requires { kind_of fields.kind ≡ Ok kind }
-    ensures { result ≡ fields_fit fields }
-{
-    match kind {
-        Kind::Board => Board {
-            mask: fields.byte,
-            window: fields.first,
-            slide: fields.second,
-            k: fields.third,
+// A message whose number of a kind is one, and this kind.
+#[derive(Clone, Copy)]
+struct Known {
+    kind: Kind,
+    message: Message,
+    ghost named: { kind_of message.kind ≡ Ok kind },
+}
+
+impl Known {
+    // The fields that the kind has, and 0 for the others.
+    #[tactic(auto, unfolding(rules::specs::Messages::own, rules::specs::Messages::layout))]
+    fn own(self) -> Message
+        ensures { result ≡ own self.message }
+    {
+        let message = self.message;
+        match self.kind {
+            Kind::Board => message,
+            Kind::Request => Message {
+                third: 0,
+                ..message
+            },
+            Kind::Open => Message {
+                byte: 0,
+                first: 0,
+                second: 0,
+                third: 0,
+                ..message
+            },
+            Kind::Clock => Message {
+                byte: 0,
+                second: 0,
+                third: 0,
+                ..message
+            },
         }
-        .fits(),
-        Kind::Request => rules::request_fits(fields.byte, fields.second),
-        Kind::Open => true,
-        Kind::Clock => rules::clock_fits(fields.first),
+    }
+
+    // The fields of the kind are in their ranges.
+    #[tactic(auto, unfolding(rules::specs::Messages::fields_fit))]
+    fn fits(self) -> bool
+        ensures { result ≡ fields_fit self.message }
+    {
+        let message = self.message;
+        match self.kind {
+            Kind::Board => Board {
+                mask: message.byte,
+                window: message.first,
+                slide: message.second,
+                k: message.third,
+            }
+            .fits(),
+            Kind::Request => rules::request_fits(message.byte, message.second),
+            Kind::Open => true,
+            Kind::Clock => rules::clock_fits(message.first),
+        }
+    }
+
+    // The message's bytes.
+    #[tactic(auto, using(crate::proofs::Writing::own_kind_small, crate::proofs::Writing::own_byte_small, crate::proofs::Writing::row_encoded))]
+    fn encode(self) -> [u8; SIZE]
+        requires { fields_fit self.message ≡ true }
+        ensures { result ≡ encoded 1 self.message }
+    {
+        let own = self.own();
+        let mut bytes = [0; SIZE];
+        bytes[..3].copy_from_slice(&mark());
+        bytes[3..5].copy_from_slice(&(VERSION as u16).to_be_bytes());
+        bytes[5] = own.kind as u8;
+        bytes[6] = own.byte as u8;
+        bytes[8..12].copy_from_slice(&own.first.to_be_bytes());
+        bytes[12..16].copy_from_slice(&own.second.to_be_bytes());
+        bytes[16..].copy_from_slice(&own.third.to_be_bytes());
+        bytes
     }
 }
 
@@ -165,30 +198,13 @@ pub fn write(version: u32, message: Message, bytes: &mut [u8], at: usize) -> Res
         return Err(Refusal::Version);
     }
     let kind = Kind::try_from(message.kind)?;
-    if !fields_fit(kind, message) {
+    let known = Known { kind, message };
+    if !known.fits() {
         return Err(Refusal::Range);
     }
     if bytes.len().saturating_sub(at) < SIZE {
         return Err(Refusal::Room);
     }
-    bytes[at..at + SIZE].copy_from_slice(&encode(kind, message));
+    bytes[at..at + SIZE].copy_from_slice(&known.encode());
     Ok(())
-}
-
-// The message's bytes.
-#[tactic(auto, using(crate::proofs::Writing::own_kind_small, crate::proofs::Writing::own_byte_small))]
-fn encode(kind: Kind, message: Message) -> [u8; SIZE]
-    requires { (kind_of message.kind ≡ Ok kind) × (fields_fit message ≡ true) }
-    ensures { result ≡ encoded 1 message }
-{
-    let own = own(kind, message);
-    let mut bytes = [0; SIZE];
-    bytes[..3].copy_from_slice(&mark());
-    bytes[3..5].copy_from_slice(&(VERSION as u16).to_be_bytes());
-    bytes[5] = own.kind as u8;
-    bytes[6] = own.byte as u8;
-    bytes[8..12].copy_from_slice(&own.first.to_be_bytes());
-    bytes[12..16].copy_from_slice(&own.second.to_be_bytes());
-    bytes[16..].copy_from_slice(&own.third.to_be_bytes());
-    bytes
 }
