@@ -61,6 +61,13 @@ fn falls(entries: &[Entry]) -> bool
     entries.is_sorted_by(|e, next| next.score <= e.score)
 }
 
+// Whether all entries fit, and none has a score above the one before it.
+fn entries_stand(clock: u32, entries: &[Entry]) -> bool
+    ensures { result ≡ (all (entry_fits clock) entries.now && falls entries.now) }
+{
+    entries_fit(clock, entries) && falls(entries)
+}
+
 // Whether any of the rules of document 01 for a desk's value is broken.
 #[tactic(auto, unfolding(rules::specs::Refusals::disorder))]
 pub fn in_disorder(desk: &Desk) -> bool
@@ -74,6 +81,5 @@ pub fn in_disorder(desk: &Desk) -> bool
         || !rules::clock_fits(desk.time.clock)
         || 1 < desk.time.phase
         || !boards_fit(desk.loaded())
-        || !entries_fit(desk.time.clock, desk.listed())
-        || !falls(desk.listed())
+        || !entries_stand(desk.time.clock, desk.listed())
 }

@@ -1,11 +1,11 @@
 -- A block's entries, word by word: the words written so far, and those of what the entries that are left still show, make the block. Its count is written last.
-use mathlib.Core.Path.{◌≡◌, sym, ◌∙◌}
-use mathlib.Core.List.{List, [], ◌∷◌, ◌++◌, append-nil}
+use mathlib.Core.Path.{◌≡◌}
+use mathlib.Core.List.{List, [], ◌∷◌, ◌++◌}
 use mathlib.Core.Bool.{true, false}
 use Prim.Native.Nat.{ℕ, ◌+◌, ◌-◌, ◌*◌, ◌≤◌, ◌<◌}
 use native.Mathlib.Omega.{arith}
 use borrow.Rule.Slice.PartMut.{put_mid}
-use lib.ListN.{length, take, drop, set, length-take, drop_of_length-le}
+use lib.ListN.{length, take, drop, set}
 use Rattle.lists.specs.Views.{those}
 use Rattle.lists.proofs.Best.{take_those}
 use Rattle.rules.specs.Moments.{in_window}
@@ -25,22 +25,15 @@ pub record Showing (b : Board) (T : ℕ) (es left : List Entry) (stood reply : L
   pub three : end ≡ 2 + 3 * shown
   pub filling : Filling stood reply end (entry_words (still_shown b T shown left)) (take 2 stood ++ entry_words (shown_at b T es))
 
--- a part that is just these words
-just : (words : List ℕ) (k : ℕ) (xs : List ℕ) → length words ≡ k → words ≡ written words (take k xs)
-just words k xs n = rw (drop_of_length-le (take k xs) {i = length words} (omega (arith, n, length-take k xs)), append-nil)
-
 module _ {b : Board} {T : ℕ} {es : List Entry} {reply : List ℕ} {end shown : ℕ} {left : List Entry} where
   pub shows : {stood : List ℕ} {e : Entry} {part : List ℕ} {k : ℕ} → Showing b T es (e ∷ left) stood reply end shown → shown < b.k → in_window b T e ≡ true
-      → end + 3 ≤ length reply → k ≡ 3 → part ≡ e.id ∷ e.score ∷ e.tick ∷ [] → Showing b T es left stood (put_mid end k reply part) (end + 3) (shown + 1)
+      → end + 3 ≤ length reply → 3 ≤ k → part ≡ written (entry_words (e ∷ [])) (take k (drop end reply)) → Showing b T es left stood (put_mid end k reply part) (end + 3) (shown + 1)
   unfolding entry_words
-  shows {stood} {e} {part} {k} g h w room three p = record {
+  shows {stood} {e} g h w room three p = record {
     some = omega arith;
     three = omega (arith, g.three);
     filling =
-        more (entry_words (e ∷ [])) (entry_words (still_shown b T (shown + 1) left)) (rw (take_those (in_window b T) b.k shown e left h w) at g.filling)
-        room
-        (omega (arith, three))
-        (p ∙ just (entry_words (e ∷ [])) k (drop end reply) (sym three));
+        more (entry_words (e ∷ [])) (entry_words (still_shown b T (shown + 1) left)) (rw (take_those (in_window b T) b.k shown e left h w) at g.filling) room three p;
   }
 
   pub passes : {stood : List ℕ} {e : Entry} → in_window b T e ≡ false → Showing b T es (e ∷ left) stood reply end shown → Showing b T es left stood reply end shown

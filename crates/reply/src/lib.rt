@@ -1,10 +1,10 @@
 // A step's blocks, written into a lent slice of words.
 #![tactic(auto)]
 
-ghost use Rattle.std.specs.Prelude.{◌≡◌, ◌+◌, ◌*◌, ◌≤◌, length, take};
+ghost use Rattle.std.specs.Prelude.{◌≡◌, [], ◌∷◌, ◌+◌, ◌*◌, ◌≤◌, length, take};
 ghost use Rattle.rules.specs.Desk.{loaded, listed};
 ghost use Rattle.rules.specs.Refusals.{reply_need};
-ghost use Rattle.rules.specs.Calls.{block, shown_at, blocks, written};
+ghost use Rattle.rules.specs.Calls.{entry_words, block, shown_at, blocks, written};
 ghost use Rattle.reply.specs.Written.{wrote, blocks_into, all_written};
 
 use rules::{Board, Desk, Entry};
@@ -28,7 +28,17 @@ pub fn reply_need(desk: &Desk) -> usize
     need
 }
 
-// A board's block, and how many words it has: its number, how many entries it shows, and id, score and tick of each.
+// An entry: its id, score and tick.
+fn write_entry(e: Entry, reply: &mut [u32])
+    requires { 3 ≤ length reply.old }
+    ensures { reply.new ≡ written (entry_words (e ∷ [])) reply.old }
+{
+    reply[0] = e.id;
+    reply[1] = e.score;
+    reply[2] = e.tick;
+}
+
+// A board's block, and how many words it has: its number, how many entries it shows, and their words.
 fn write_block(number: u32, board: Board, at: u32, listed: &[Entry], reply: &mut [u32]) -> usize
     requires { 2 + 3 * board.k ≤ length reply.old }
     ensures { let words = block number (shown_at board at listed.now) in (result ≡ length words) × (reply.new ≡ written words reply.old) }
@@ -41,7 +51,7 @@ fn write_block(number: u32, board: Board, at: u32, listed: &[Entry], reply: &mut
             break;
         }
         if board.in_window(at, *e) {
-            reply[end..end + 3].copy_from_slice(&[e.id, e.score, e.tick]);
+            write_entry(*e, &mut reply[end..]);
             end += 3;
             shown += 1;
         }

@@ -14,7 +14,7 @@ loop-e-preserved c =
     let g = rw (turn c.args.listed.now no_entry i c.loop-e-test.true) at c.loop-e.invariant in
     let kept : length (set c.args.reply.now 0 c.args.number) ≡ length c.args.reply.now = simp length-set in
     elim c.if-in_window.branch [
-      | then-in_window w ↦ rw (w.reply-is, w.shown-is, w.end-is) (shows g (omega arith) (cc) (omega arith) (omega arith) w.copy_from_slice.ensures.after)
+      | then-in_window w ↦ rw (w.reply-is, w.shown-is, w.end-is) (shows g (omega arith) (cc) (omega arith) (omega arith) w.write_entry.ensures)
       | else-in_window w ↦ rw (w.reply-is, w.shown-is, w.end-is) (passes (cc) g)
     ]
 
