@@ -22,6 +22,13 @@ const NO_ENTRY: Entry = Entry {
     topic: 0,
 };
 
+// All zeros, which cost least to write.
+const NO_SPOT: Spot = Spot {
+    entry: NO_ENTRY,
+    bit: 0,
+    marked: false,
+};
+
 // An entry in line, the bit of its topic, and whether some board has marked it.
 #[derive(Clone, Copy)]
 struct Spot {
@@ -42,9 +49,10 @@ impl Spot {
         }
     }
 
-    // Whether a board that names these topics, and whose edge is this, shows the entry. It is one test and not two: seldom true, so that the processor foretells it.
-    fn is_shown(&self, topics: u32, edge: u32) -> bool
-        ensures { result ≡ (leb edge self.now.entry.tick && ltb 0 (bit_and topics self.now.bit)) }
+    // Whether a board that names these topics, and whose edge is this, shows the entry. It is one test and not two, seldom true, so that the processor foretells it;
+    // the spot comes by value, for a bit that is read behind the first test makes two of it.
+    fn is_shown(self, topics: u32, edge: u32) -> bool
+        ensures { result ≡ (leb edge self.entry.tick && ltb 0 (bit_and topics self.bit)) }
     {
         let bit = if edge <= self.entry.tick { self.bit } else { 0 };
         0 < topics & u32::from(bit)
@@ -229,7 +237,7 @@ fn walk(desk: &mut Desk, clock: u32, new: Option<Entry>)
     if !is_holdable(desk) {
         return;
     }
-    let mut line = [Spot::of(NO_ENTRY); 1025];
+    let mut line = [NO_SPOT; 1025];
     let line = line_up(desk.listed(), new, &mut line);
     mark_all(desk.loaded(), clock, line);
     desk.len = keep(line, desk.len, &mut desk.entries);
