@@ -3,9 +3,9 @@
 
 ghost use Rattle.std.specs.Prelude.{◌≡◌, ◌*◌, ◌≤◌, length, ◌≢◌};
 ghost use Rattle.rules.specs.Calls.Reply.{refused};
-ghost use Rattle.rules.specs.Replies.{number, asked};
+ghost use Rattle.rules.specs.Replies.{number, replied};
 
-use rules::{Asked, Refusal};
+use rules::Refusal;
 use std::io::Read;
 use text::Begun;
 
@@ -88,12 +88,12 @@ fn take(
 }
 
 // Whether no line was refused; if one was, says which.
-fn goes_on(rt: &impl Eprint, answer: Asked, place: u64) -> bool
-    requires { asked answer ≢ refused 14 }
+fn goes_on(rt: &impl Eprint, answer: Result<(), Refusal>, place: u64) -> bool
+    requires { replied answer ≢ refused 14 }
 {
     match answer {
-        Asked::Accepted => true,
-        Asked::Refused(refusal) => {
+        Ok(()) => true,
+        Err(refusal) => {
             refuse(rt, place, refusal);
             false
         }
@@ -108,6 +108,5 @@ fn finish(rt: &impl Eprint, line: Begun, place: u64) {
 fn refuse(rt: &impl Eprint, place: u64, refusal: Refusal)
     requires { number refusal ≢ 14 }
 {
-    let number = rules::number(refusal);
-    let _ = eprintln!(rt; "refused {place} {number}");
+    let _ = eprintln!(rt; "refused {place} {refusal}");
 }

@@ -12,8 +12,8 @@ use Rattle.rules.specs.Calls.Reply.{refused, accepted}
 use Rattle.text.specs.Decimals.{some, is_digit}
 use Rattle.text.specs.Lines.{TextOutcome, split, on_reply, so_far, write_read, line_call, lines_call, text_call}
 use Rattle.text.specs.Machine.{PieceOutcome, fresh, next, line_end, begun, end_call, piece_call, leaving, taken}
-use Rattle.rules.specs.Replies.{asked, number}
-use Rattle.rules.specs.declared.Asked.{Asked}
+use Rattle.std.specs.Prelude.{Result, Ok, Err}
+use Rattle.rules.specs.Replies.{replied, number}
 use Rattle.rules.specs.declared.Refusal.{Refusal}
 use Rattle.text.specs.declared.Begun.{Begun}
 use Rattle.text.specs.declared.Taken.{Taken}
@@ -102,10 +102,10 @@ module _ (r : Taken) (s : Begun) (after text slice : List ℕ) (at : ℕ) (promi
   closes : closed (taken r after) ≡ text_call text slice at
   closes = ap closed (promised ∙ ap (λ x. piece_call x text 0 slice at) begins) ∙ whole_text text slice at
 
-  pub to_the_end : (a : Asked) → r.answer ≡ Asked.Accepted → asked a ≡ end_call r.line → so_far r.messages r.place after (asked a) ≡ text_call text slice at
+  pub to_the_end : (a : Result Unit Refusal) → r.answer ≡ Ok tt → replied a ≡ end_call r.line → so_far r.messages r.place after (replied a) ≡ text_call text slice at
   to_the_end a e f = rw f (rw e at closes)
 
-  pub to_a_refusal : (n : Refusal) → r.answer ≡ Asked.Refused n → so_far r.messages r.place after (refused (number n)) ≡ text_call text slice at
+  pub to_a_refusal : (n : Refusal) → r.answer ≡ Err n → so_far r.messages r.place after (refused (number n)) ≡ text_call text slice at
   to_a_refusal n e = rw e at closes
 
 -- Pieces of any size: one piece behind another is the two joined.

@@ -4,7 +4,7 @@ use Rattle.lists.specs.Views.{all}
 use Rattle.rules.specs.Refusals.{◌when◌, judged}
 use Rattle.rules.specs.Calls.{Reply, WriterOutcome}
 use Rattle.rules.specs.Calls.Reply.{refused, accepted}
-use Rattle.rules.specs.Replies.{asked}
+use Rattle.rules.specs.Replies.{replied}
 use Rattle.rules.specs.declared.Message.{Message}
 use Rattle.text.specs.Decimals.{is_digit, tenfold}
 use Rattle.text.specs.Lines.{space, line_feed, formed, has_32_bits, read_numbers, write_read, TextOutcome, on_reply, so_far}
@@ -76,7 +76,7 @@ piece_call s (byte ∷ bytes) messages slice at =
 
 -- What the functions give back, in these terms.
 abbrev pub taken : Taken → List ℕ → PieceOutcome
-taken r slice = leaving r.line (so_far r.messages r.place slice (asked r.answer))
+taken r slice = leaving r.line (so_far r.messages r.place slice (replied r.answer))
 
 abbrev pub written : Written → List ℕ → TextOutcome
-written r slice = so_far r.messages r.place slice (asked r.answer)
+written r slice = so_far r.messages r.place slice (replied r.answer)

@@ -4,12 +4,12 @@
 ghost use Rattle.std.specs.Prelude.{◌≡◌, true, ◌+◌, ◌^◌, ◌%◌, ◌≤◌, ◌<◌, length, take};
 ghost use Rattle.lists.specs.Views.{all};
 ghost use Rattle.message.specs.Outcomes.{wrote};
-ghost use Rattle.rules.specs.Replies.{asked, read as read_of};
+ghost use Rattle.rules.specs.Replies.{replied};
 ghost use Rattle.text.specs.Lines.{formed, has_32_bits, read_numbers, of_numbers, text_call};
 ghost use Rattle.text.specs.Machine.{fresh, next, ends, breaks, says, line_end, begun, end_call, piece_call, taken, written, capped, Formed};
 ghost use Rattle.text.specs.Decimals.{is_digit, tenfold};
 
-use rules::{Asked, Message, Read, Refusal};
+use rules::{Message, Refusal};
 
 // A line that was begun: its finished numbers, how many they are, the one that is being read, whether that has a digit, and whether the form is broken.
 #[derive(Clone, Copy)]
@@ -28,7 +28,7 @@ pub struct Taken {
     pub line: Begun,
     pub messages: usize,
     pub place: usize,
-    pub answer: Asked,
+    pub answer: Result<(), Refusal>,
 }
 
 // What came of a whole text.
@@ -36,7 +36,7 @@ pub struct Taken {
 pub struct Written {
     pub messages: usize,
     pub place: usize,
-    pub answer: Asked,
+    pub answer: Result<(), Refusal>,
 }
 
 // Nothing of a line.
@@ -59,15 +59,15 @@ pub fn write(text: &[u8], bytes: &mut [u8], at: usize) -> Written
     let taken = take(fresh(), text, bytes, at);
     let answer = taken.answer;
     match answer {
-        Asked::Accepted => Written {
+        Ok(()) => Written {
             messages: taken.messages,
             place: taken.place,
             answer: end(taken.line),
         },
-        Asked::Refused(refusal) => Written {
+        Err(refusal) => Written {
             messages: taken.messages,
             place: taken.place,
-            answer: Asked::Refused(refusal),
+            answer: Err(refusal),
         },
     }
 }
@@ -87,13 +87,13 @@ pub fn take(line: Begun, piece: &[u8], bytes: &mut [u8], at: usize) -> Taken
         if byte == b'\n' {
             let answer = line_end(line, bytes, place);
             match answer {
-                Asked::Accepted => {}
-                Asked::Refused(refusal) => {
+                Ok(()) => {}
+                Err(refusal) => {
                     return Taken {
                         line,
                         messages,
                         place,
-                        answer: Asked::Refused(refusal),
+                        answer: Err(refusal),
                     };
                 }
             }
@@ -108,25 +108,25 @@ pub fn take(line: Begun, piece: &[u8], bytes: &mut [u8], at: usize) -> Taken
         line,
         messages,
         place,
-        answer: Asked::Accepted,
+        answer: Ok(()),
     }
 }
 
 // The end of a text: a line that was begun lacks its line feed.
 #[tactic(auto, unfolding(crate::specs::Machine::end_call, crate::specs::Machine::begun))]
-pub fn end(line: Begun) -> Asked
-    ensures { asked result ≡ end_call line }
+pub fn end(line: Begun) -> Result<(), Refusal>
+    ensures { replied result ≡ end_call line }
 {
     if line.broken {
-        return Asked::Refused(Refusal::Form);
+        return Err(Refusal::Form);
     }
     if line.digits {
-        return Asked::Refused(Refusal::Form);
+        return Err(Refusal::Form);
     }
     if 0 < line.count {
-        return Asked::Refused(Refusal::Form);
+        return Err(Refusal::Form);
     }
-    Asked::Accepted
+    Ok(())
 }
 
 // One byte more, which is no line feed.
@@ -184,33 +184,30 @@ fn ends(line: Begun) -> Begun
 
 // The line's message is written.
 #[tactic(auto, unfolding(crate::specs::Machine::line_end))]
-fn line_end(line: Begun, bytes: &mut [u8], at: usize) -> Asked
+fn line_end(line: Begun, bytes: &mut [u8], at: usize) -> Result<(), Refusal>
     ensures { wrote result bytes.new ≡ line_end line bytes.old at }
 {
-    let read = said(ends(line));
-    match read {
-        Read::Message(m) => message::write(message::VERSION, m, bytes, at),
-        Read::Refused(refusal) => Asked::Refused(refusal),
-    }
+    let message = said(ends(line))?;
+    message::write(message::VERSION, message, bytes, at)
 }
 
 // The message in the numbers of a line. A line that was handed in may have any count.
 #[tactic(auto, unfolding(crate::specs::Lines::read_numbers))]
-fn said(line: Begun) -> Read
-    ensures { read_of result ≡ says line }
+fn said(line: Begun) -> Result<Message, Refusal>
+    ensures { replied result ≡ says line }
 {
     if line.broken {
-        return Read::Refused(Refusal::Form);
+        return Err(Refusal::Form);
     }
-    let count = rules::least(line.count, 6);
+    let count = line.count.min(6);
     let numbers = line.numbers;
     if !formed(&numbers, count) {
-        return Read::Refused(Refusal::Form);
+        return Err(Refusal::Form);
     }
     if !small(&numbers, count) {
-        return Read::Refused(Refusal::Range);
+        return Err(Refusal::Range);
     }
-    Read::Message(message_of(&numbers, count))
+    Ok(message_of(&numbers, count))
 }
 
 // Version 1, a known kind, and as many numbers behind it as the kind has fields.

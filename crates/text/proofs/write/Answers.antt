@@ -2,14 +2,14 @@
 use Rattle.text.proofs.Whole.{to_the_end, to_a_refusal}
 use Rattle.text.proofs.write.Goals as goal
 
-pub returns-in-Accepted : goal.returns-in-Accepted
-returns-in-Accepted c =
+pub returns-in-Ok : goal.returns-in-Ok
+returns-in-Ok c =
     let a = c.args in
     let t = c.take-taken in
-    to_the_end t.result _ t.new.bytes a.text.now a.bytes.now a.at t.ensures c.fresh.ensures c.end.result c.in-Accepted.is c.end.ensures
+    to_the_end t.result _ t.new.bytes a.text.now a.bytes.now a.at t.ensures c.fresh.ensures c.end.result c.in-Ok.is c.end.ensures
 
-pub returns-in-Refused : goal.returns-in-Refused
-returns-in-Refused c =
+pub returns-in-Err : goal.returns-in-Err
+returns-in-Err c =
     let a = c.args in
     let t = c.take-taken in
-    to_a_refusal t.result _ t.new.bytes a.text.now a.bytes.now a.at t.ensures c.fresh.ensures c.in-Refused.refusal c.in-Refused.is
+    to_a_refusal t.result _ t.new.bytes a.text.now a.bytes.now a.at t.ensures c.fresh.ensures c.in-Err.refusal c.in-Err.is
