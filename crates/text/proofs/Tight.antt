@@ -12,17 +12,6 @@ use Rattle.text.specs.declared.Begun.{Begun}
 use Rattle.text.specs.declared.Taken.{Taken}
 use Rattle.text.specs.declared.Written.{Written}
 
-abbrev took : Taken × List ℕ → PieceOutcome
-took r = taken r.0 r.1
-
-abbrev of_taken : Begun → ℕ → ℕ → Result Unit Refusal → List ℕ → Taken × List ℕ
-of_taken line messages place answer slice = (record { line = line; messages = messages; place = place; answer = answer }, slice)
-
-same_took : (r s : Taken × List ℕ) → took r ≡ took s → r ≡ s
-same_took r s e =
-    let answer = same_replied r.0.answer s.0.answer (ap (λ (o : PieceOutcome). o.text.reply) e) in
-    ap₂ (λ (o : PieceOutcome) a. of_taken o.line o.text.messages o.text.place a o.text.slice) e answer
-
 abbrev wrote : Written × List ℕ → TextOutcome
 wrote r = written r.0 r.1
 
@@ -33,6 +22,16 @@ same_wrote : (r s : Written × List ℕ) → wrote r ≡ wrote s → r ≡ s
 same_wrote r s e =
     let answer = same_replied r.0.answer s.0.answer (ap (λ (o : TextOutcome). o.reply) e) in
     ap₂ (λ (o : TextOutcome) a. of_written o.messages o.place a o.slice) e answer
+
+abbrev took : Taken × List ℕ → PieceOutcome
+took r = taken r.0 r.1
+
+abbrev of_taken : Begun → Written × List ℕ → Taken × List ℕ
+of_taken line w = (record { line = line; written = w.0 }, w.1)
+
+same_took : (r s : Taken × List ℕ) → took r ≡ took s → r ≡ s
+same_took r s e =
+    ap₂ of_taken (ap (λ (o : PieceOutcome). o.line) e) (same_wrote (r.0.written, r.1) (s.0.written, s.1) (ap (λ (o : PieceOutcome). o.text) e))
 
 pub take_tight : (line : Begun) (piece bytes : List ℕ) (at : ℕ) (r s : Taken × List ℕ) → took r ≡ piece_call line piece 0 bytes at → took s ≡ piece_call line piece 0 bytes at → r ≡ s
 take_tight line piece bytes at = determined took same_took (piece_call line piece 0 bytes at)
