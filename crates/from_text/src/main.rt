@@ -1,113 +1,112 @@
 // Document 02, item 1: the text lines on standard input become a file of messages on standard output. It stops at the first line that is refused.
 #![tactic(auto)]
 
-ghost use Rattle.std.specs.Prelude.{◌≡◌, ◌*◌, ◌≤◌, length, ◌≢◌};
-ghost use Rattle.rules.specs.Calls.Reply.{refused};
-ghost use Rattle.rules.specs.Replies.{number, asked};
+ghost use Rattle.std.specs.Prelude.{◌*◌, ◌≤◌, ◌≢◌, length};
+ghost use Rattle.rules.specs.Replies.{number};
 
-use rules::{Asked, Refusal};
+use rules::Refusal;
+use std::fmt;
 use std::io::Read;
-use text::Begun;
+use text::{Begun, Taken};
 
-// A byte ends at most one line, and a line gives at most 20 bytes. So a piece of the input always has room for its messages, and 14 never shows.
+// A byte ends at most one line, and a line gives at most one message. So a piece of the input always has room for its messages, and 14 never shows.
 const PIECE: usize = 16384;
 
-const ROOM: usize = 327680;
+const ROOM: usize = PIECE * message::SIZE;
 
-// The line that is left begun, how many lines were written, and whether there is more to do.
+// A line that is refused, counted from 0.
+#[derive(Clone, Copy)]
+struct Refused {
+    place: u64,
+    refusal: Refusal,
+    ghost never_for_room: { number refusal ≢ 14 },
+}
+
+// Why it stops before the end of the input.
+#[derive(Clone, Copy)]
+enum Stop {
+    Unreadable,
+    Unwritable,
+    Line(Refused),
+}
+
+impl fmt::Display for Stop {
+    fn fmt<W: fmt::Write>(&self, f: &mut fmt::Formatter<W>) -> fmt::Result {
+        match *self {
+            Stop::Unreadable => write!(f, "from_text: standard input cannot be read"),
+            Stop::Unwritable => write!(f, "from_text: standard output cannot be written"),
+            Stop::Line(Refused { place, refusal }) => write!(f, "refused {place} {refusal}"),
+        }
+    }
+}
+
+// The line that is left begun, and how many lines were written.
 #[derive(Clone, Copy)]
 struct Progress {
     line: Begun,
     place: u64,
-    more: bool,
 }
 
 fn main(rt: HostRuntime) {
     let mut input = [0u8; PIECE];
     let mut output = [0u8; ROOM];
-    run(&rt, &mut rt.stdin(), &mut input, &mut output);
+    if let Err(stop) = run(&rt, &mut rt.stdin(), &mut input, &mut output) {
+        let _ = eprintln!(rt; "{stop}");
+    }
 }
 
-// To the end of the input. The reads are counted up to a number that no run reaches.
-fn run(rt: &(impl Print + Eprint), stdin: &mut impl Read, input: &mut [u8], output: &mut [u8])
+// To the end of the input. The reads are counted up to a number that no run reaches, for a loop has to end.
+fn run(
+    rt: &impl Print,
+    stdin: &mut impl Read,
+    input: &mut [u8],
+    output: &mut [u8],
+) -> Result<(), Stop>
     requires { 20 * length input.old ≤ length output.old }
 {
-    let mut line = text::fresh();
-    let mut place: u64 = 0;
+    let mut progress = Progress {
+        line: text::fresh(),
+        place: 0,
+    };
     for _ in 0..u64::MAX {
-        let Ok(end) = stdin.read(input) else {
-            return unreadable(rt);
-        };
+        let end = stdin.read(input).map_err(|_| Stop::Unreadable)?;
         if end == 0 {
-            return finish(rt, line, place);
+            return progress.end();
         }
-        let after = take(rt, line, place, &input[..end], output);
-        if !after.more {
-            return;
-        }
-        let next = after.line;
-        line = next;
-        place = after.place;
+        progress = progress.take(rt, &input[..end], output)?;
     }
+    Ok(())
 }
 
-fn unreadable(rt: &impl Eprint) {
-    let _ = eprintln!(rt; "from_text: standard input cannot be read");
-}
-
-// Writes out the messages of a piece; then says which line is refused, if one is.
-#[tactic(auto, using(text::proofs::Room::roomy, std::proofs::lemmas::Grind::common_steps))]
-fn take(
-    rt: &(impl Print + Eprint),
-    line: Begun,
-    place: u64,
-    piece: &[u8],
-    output: &mut [u8],
-) -> Progress
-    requires { 20 * length piece.now ≤ length output.old }
-{
-    let taken = text::take(line, piece, output, 0);
-    let end = taken.place;
-    let rest = taken.line;
-    let answer = taken.answer;
-    // No input has 2 to the 64 lines.
-    let place = std::num::wrapping_add_u64(place, taken.messages as u64);
-    if rt.write_all(&output[..end]).is_ok() {
-        return Progress {
-            line: rest,
-            place,
-            more: goes_on(rt, answer, place),
-        };
+impl Progress {
+    // Writes out the messages of a piece; then a line of it is refused, if one is.
+    #[tactic(auto, using(text::proofs::Room::roomy, std::proofs::lemmas::Grind::common_steps))]
+    fn take(self, rt: &impl Print, piece: &[u8], output: &mut [u8]) -> Result<Progress, Stop>
+        requires { 20 * length piece.now ≤ length output.old }
+    {
+        let Taken { line, written } = text::take(self.line, piece, output, 0);
+        // No input has 2 to the 64 lines.
+        let place = self.place.wrapping_add(written.messages as u64);
+        let progress = Progress { line, place };
+        rt.write_all(&output[..written.place])
+            .map_err(|_| Stop::Unwritable)?;
+        written.answer.map_err(|refusal| progress.refused(refusal))?;
+        Ok(progress)
     }
-    let _ = eprintln!(rt; "from_text: standard output cannot be written");
-    Progress {
-        line: rest,
-        place,
-        more: false,
+
+    // The end of the input: a line that was begun is refused.
+    #[tactic(auto, unfolding(text::specs::Machine::end_call))]
+    fn end(self) -> Result<(), Stop> {
+        text::end(self.line).map_err(|refusal| self.refused(refusal))
     }
-}
 
-// Whether no line was refused; if one was, says which.
-fn goes_on(rt: &impl Eprint, answer: Asked, place: u64) -> bool
-    requires { asked answer ≢ refused 14 }
-{
-    match answer {
-        Asked::Accepted => true,
-        Asked::Refused(refusal) => {
-            refuse(rt, place, refusal);
-            false
-        }
+    // The line behind those that were written is refused.
+    fn refused(self, refusal: Refusal) -> Stop
+        requires { number refusal ≢ 14 }
+    {
+        Stop::Line(Refused {
+            place: self.place,
+            refusal,
+        })
     }
-}
-
-// The end of the input: a line that was begun is refused.
-fn finish(rt: &impl Eprint, line: Begun, place: u64) {
-    goes_on(rt, text::end(line), place);
-}
-
-fn refuse(rt: &impl Eprint, place: u64, refusal: Refusal)
-    requires { number refusal ≢ 14 }
-{
-    let number = rules::number(refusal);
-    let _ = eprintln!(rt; "refused {place} {number}");
 }

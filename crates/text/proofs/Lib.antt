@@ -1,7 +1,6 @@
 pub mod Capping
 pub mod EachKind
 pub mod Grammar
-pub mod Numbers
 pub mod Pieces
 pub mod Reading
 pub mod Room

@@ -1,5 +1,5 @@
 -- A piece, byte by byte: what is left of it makes of the line what the whole makes of the line before it.
-use mathlib.Core.Path.{◌≡◌, sym, ap, ◌∙◌}
+use mathlib.Core.Path.{◌≡◌, refl, sym, ap, ◌∙◌}
 use mathlib.Core.List.{List, ◌∷◌}
 use mathlib.Core.Logic.{⊎_elim}
 use Prim.Native.Nat.{ℕ, ◌+◌, ◌≤◌, ◌<◌}
@@ -11,22 +11,21 @@ use lib.Seq.{drop-cons}
 use Rattle.message.specs.Outcomes.{wrote}
 use Rattle.rules.specs.Calls.{Reply, WriterOutcome}
 use Rattle.rules.specs.Calls.Reply.{refused, accepted}
-use Rattle.rules.specs.Replies.{read, number}
-use Rattle.rules.specs.declared.Asked.{Asked}
-use Rattle.rules.specs.declared.Read.{Read}
+use Rattle.std.specs.Prelude.{Result, Ok, Err}
+use Rattle.std.specs.Result.{is_err}
+use Rattle.rules.specs.Replies.{replied}
+use Rattle.lists.proofs.Bools.{clash}
+use mathlib.Core.Bool.{true, false}
 use Rattle.rules.specs.declared.Refusal.{Refusal}
-use Rattle.text.specs.Lines.{write_read, so_far}
-use Rattle.text.specs.Machine.{fresh, next, ends, says, line_end, piece_call, leaving}
+use Rattle.text.specs.Lines.{so_far}
+use Rattle.text.specs.Machine.{fresh, next, line_end, piece_call, leaving}
 use Rattle.text.specs.declared.Begun.{Begun}
 use Rattle.text.proofs.Room.{line_or_not}
 
-pub ended : (s t : Begun) (r : Read) (slice : List ℕ) (at : ℕ) → t ≡ ends s → read r ≡ says t → write_read (read r) slice at ≡ line_end s slice at
-unfolding line_end
-ended s t r slice at e f = ap (λ x. write_read x slice at) (f ∙ ap says e)
-
 -- What is written has room.
-pub room : (s : Begun) (slice after : List ℕ) (at : ℕ) → wrote Asked.Accepted after ≡ line_end s slice at → at + 20 ≤ length slice
-room s slice after at w =
+pub room : (s : Begun) (slice after : List ℕ) (at : ℕ) (a : Result Unit Refusal) → is_err a ≡ false → wrote a after ≡ line_end s slice at → at + 20 ≤ length slice
+room s slice after at (Err r) e w = clash refl e
+room s slice after at (Ok _) e w =
     ⊎_elim
     (λ k.
     let e : ◌≡◌ {A = Reply Unit} (accepted tt) (refused k.no) = ap (λ (o : WriterOutcome). o.reply) (w ∙ k.stands) in
@@ -43,12 +42,13 @@ module _ (s : Begun) (piece : List ℕ) (i messages : ℕ) (slice : List ℕ) (a
   unfolding piece_call
   goes_on h = ap (λ l. piece_call s l messages slice at) here ∙ rw (ne_eqb _ _ h)
 
-  pub line_refused : (after : List ℕ) (r : Refusal) → get_or piece i 0 ≡ 10 → wrote (Asked.Refused r) after ≡ line_end s slice at
-      → leaving s (so_far messages at after (refused (number r))) ≡ piece_call s (drop i piece) messages slice at
+  pub line_refused : (after : List ℕ) (a : Result Unit Refusal) → get_or piece i 0 ≡ 10 → is_err a ≡ true → wrote a after ≡ line_end s slice at
+      → leaving s (so_far messages at after (replied a)) ≡ piece_call s (drop i piece) messages slice at
   unfolding piece_call
-  line_refused after r e w = sym (ap (λ l. piece_call s l messages slice at) here ∙ rw (eq-eqb _ _ e, ← w))
+  line_refused after (Ok _) e f w = clash f refl
+  line_refused after (Err r) e f w = sym (ap (λ l. piece_call s l messages slice at) here ∙ rw (eq-eqb _ _ e, ← w))
 
-  pub line_written : (after : List ℕ) → get_or piece i 0 ≡ 10 → wrote Asked.Accepted after ≡ line_end s slice at
+  pub line_written : (after : List ℕ) → get_or piece i 0 ≡ 10 → wrote (Ok tt) after ≡ line_end s slice at
       → piece_call s (drop i piece) messages slice at ≡ piece_call fresh (drop (i + 1) piece) (messages + 1) after (at + 20)
   unfolding piece_call
   line_written after e w = ap (λ l. piece_call s l messages slice at) here ∙ rw (eq-eqb _ _ e, ← w)

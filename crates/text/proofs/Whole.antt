@@ -12,8 +12,9 @@ use Rattle.rules.specs.Calls.Reply.{refused, accepted}
 use Rattle.text.specs.Decimals.{some, is_digit}
 use Rattle.text.specs.Lines.{TextOutcome, split, on_reply, so_far, write_read, line_call, lines_call, text_call}
 use Rattle.text.specs.Machine.{PieceOutcome, fresh, next, line_end, begun, end_call, piece_call, leaving, taken}
-use Rattle.rules.specs.Replies.{asked, number}
-use Rattle.rules.specs.declared.Asked.{Asked}
+use Rattle.std.specs.Prelude.{Result, Ok, Err}
+use Rattle.std.specs.Result.{result_and}
+use Rattle.rules.specs.Replies.{replied}
 use Rattle.rules.specs.declared.Refusal.{Refusal}
 use Rattle.text.specs.declared.Begun.{Begun}
 use Rattle.text.specs.declared.Taken.{Taken}
@@ -98,15 +99,19 @@ from_fresh (line ∷ next ∷ rest) messages slice at =
 pub whole_text : (text slice : List ℕ) (at : ℕ) → closed (piece_call fresh text 0 slice at) ≡ text_call text slice at
 whole_text text slice at = taken_whole text fresh 0 slice at ∙ from_fresh (split 10 text) 0 slice at
 
-module _ (r : Taken) (s : Begun) (after text slice : List ℕ) (at : ℕ) (promised : taken r after ≡ piece_call s text 0 slice at) (begins : s ≡ fresh) where
-  closes : closed (taken r after) ≡ text_call text slice at
-  closes = ap closed (promised ∙ ap (λ x. piece_call x text 0 slice at) begins) ∙ whole_text text slice at
+ended_too : (s : Begun) (messages place : ℕ) (after : List ℕ) (a b : Result Unit Refusal) → replied b ≡ end_call s
+    → so_far messages place after (replied (result_and a b)) ≡ closed (leaving s (so_far messages place after (replied a)))
+ended_too s messages place after (Ok _) b e = ap (so_far messages place after) e
+ended_too s messages place after (Err r) b e = refl
 
-  pub to_the_end : (a : Asked) → r.answer ≡ Asked.Accepted → asked a ≡ end_call r.line → so_far r.messages r.place after (asked a) ≡ text_call text slice at
-  to_the_end a e f = rw f (rw e at closes)
-
-  pub to_a_refusal : (n : Refusal) → r.answer ≡ Asked.Refused n → so_far r.messages r.place after (refused (number n)) ≡ text_call text slice at
-  to_a_refusal n e = rw e at closes
+-- What came of the whole text as a piece, and then of its end.
+pub to_the_end : (r : Taken) (s : Begun) (after text slice : List ℕ) (at : ℕ) (a b : Result Unit Refusal) → taken r after ≡ piece_call s text 0 slice at → s ≡ fresh → replied a ≡ end_call r.line
+    → b ≡ result_and r.written.answer a → so_far r.written.messages r.written.place after (replied b) ≡ text_call text slice at
+to_the_end r s after text slice at a b promised begins e f =
+    rw f
+    (ended_too r.line r.written.messages r.written.place after r.written.answer a e
+    ∙ ap closed (promised ∙ ap (λ x. piece_call x text 0 slice at) begins)
+    ∙ whole_text text slice at)
 
 -- Pieces of any size: one piece behind another is the two joined.
 pub further : PieceOutcome → List ℕ → PieceOutcome

@@ -1,13 +1,13 @@
 -- The reader of lines as a machine: a line may come in pieces, and be longer than any of them.
-use Rattle.std.specs.Prelude.{◌≡◌, List, [], ◌∷◌, Bool, true, false, cond, not, ◌&&◌, ◌||◌, ℕ, ◌+◌, ◌^◌, ◌≤◌, min, eqb, ltb, length, take, set, replicate}
+use Rattle.std.specs.Prelude.{List, [], ◌∷◌, Bool, true, false, cond, not, ◌&&◌, ◌||◌, ℕ, ◌+◌, ◌^◌, min, eqb, ltb, take, set, replicate}
 use Rattle.lists.specs.Views.{all}
 use Rattle.rules.specs.Refusals.{◌when◌, judged}
 use Rattle.rules.specs.Calls.{Reply, WriterOutcome}
 use Rattle.rules.specs.Calls.Reply.{refused, accepted}
-use Rattle.rules.specs.Replies.{asked}
+use Rattle.rules.specs.Replies.{replied}
 use Rattle.rules.specs.declared.Message.{Message}
 use Rattle.text.specs.Decimals.{is_digit, tenfold}
-use Rattle.text.specs.Lines.{space, line_feed, formed, has_32_bits, read_numbers, write_read, TextOutcome, on_reply, so_far}
+use Rattle.text.specs.Lines.{space, line_feed, has_32_bits, read_numbers, write_read, TextOutcome, on_reply, so_far}
 use Rattle.text.specs.declared.Begun.{Begun}
 use Rattle.text.specs.declared.Taken.{Taken}
 use Rattle.text.specs.declared.Written.{Written}
@@ -36,12 +36,13 @@ ends s =
 unfoldable pub next : Begun → ℕ → Begun
 next s byte = cond (is_digit byte) (digit s byte) (cond (eqb byte space) (ends s) (breaks s))
 
--- So many of six numbers are of the form, each within 32 bits.
-pub record Formed (count : ℕ) (ns : List ℕ) : Type 0 where
-  pub six : length ns ≡ 6
-  pub few : count ≤ 6
-  pub form : formed (take count ns) ≡ true
-  pub small : all has_32_bits (take count ns) ≡ true
+-- the number, if 32 bits hold it
+abbrev pub in_word : ℕ → Reply ℕ
+in_word n = judged (6 when not (has_32_bits n) ∷ []) refused (accepted n)
+
+-- the message, if 32 bits hold each of its fields
+abbrev pub in_words : Message → Reply Message
+in_words m = judged (6 when not (all has_32_bits (m.byte ∷ m.first ∷ m.second ∷ m.third ∷ [])) ∷ []) refused (accepted m)
 
 -- At the line feed: what the numbers say.
 abbrev pub says : Begun → Reply Message
@@ -75,8 +76,8 @@ piece_call s (byte ∷ bytes) messages slice at =
     (piece_call (next s byte) bytes messages slice at)
 
 -- What the functions give back, in these terms.
-abbrev pub taken : Taken → List ℕ → PieceOutcome
-taken r slice = leaving r.line (so_far r.messages r.place slice (asked r.answer))
-
 abbrev pub written : Written → List ℕ → TextOutcome
-written r slice = so_far r.messages r.place slice (asked r.answer)
+written r slice = so_far r.messages r.place slice (replied r.answer)
+
+abbrev pub taken : Taken → List ℕ → PieceOutcome
+taken r slice = leaving r.line (written r.written slice)

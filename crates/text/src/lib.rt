@@ -1,17 +1,16 @@
 // Document 01's text form of messages, read byte by byte: a line may come in pieces of any size. Each line that is whole is written as a message.
 #![tactic(auto)]
 
-ghost use Rattle.std.specs.Prelude.{◌≡◌, true, ◌+◌, ◌^◌, ◌%◌, ◌≤◌, ◌<◌, length, take};
-ghost use Rattle.lists.specs.Views.{all};
+ghost use Rattle.std.specs.Prelude.{◌≡◌, true};
 ghost use Rattle.message.specs.Outcomes.{wrote};
-ghost use Rattle.rules.specs.Replies.{asked, read as read_of};
-ghost use Rattle.text.specs.Lines.{formed, has_32_bits, read_numbers, of_numbers, text_call};
-ghost use Rattle.text.specs.Machine.{fresh, next, ends, breaks, says, line_end, begun, end_call, piece_call, taken, written, capped, Formed};
-ghost use Rattle.text.specs.Decimals.{is_digit, tenfold};
+ghost use Rattle.rules.specs.Replies.{replied};
+ghost use Rattle.text.specs.Lines.{read_numbers, has_32_bits, text_call};
+ghost use Rattle.text.specs.Machine.{fresh, next, ends, says, line_end, begun, end_call, piece_call, taken, written, in_word, in_words};
 
-use rules::{Asked, Message, Read, Refusal};
+use rules::{Message, Refusal};
 
 // A line that was begun: its finished numbers, how many they are, the one that is being read, whether that has a digit, and whether the form is broken.
+// `take` and `end` promise an answer for every value of these, so for a number without a digit and for a count past the numbers too: no `Option`, no slice.
 #[derive(Clone, Copy)]
 pub struct Begun {
     pub numbers: [u64; 6],
@@ -21,23 +20,23 @@ pub struct Begun {
     pub broken: bool,
 }
 
-// What came of a piece: the line that is left begun, how many messages were written, the place behind them, and whether a line was refused: the one whose
-// number is that count.
-#[derive(Clone, Copy)]
-pub struct Taken {
-    pub line: Begun,
-    pub messages: usize,
-    pub place: usize,
-    pub answer: Asked,
-}
-
-// What came of a whole text.
+// What was written: how many messages, the place behind them, and whether a line was refused: the one whose number is that count.
 #[derive(Clone, Copy)]
 pub struct Written {
     pub messages: usize,
     pub place: usize,
-    pub answer: Asked,
+    pub answer: Result<(), Refusal>,
 }
+
+// What came of a piece: the line that is left begun, and what was written.
+#[derive(Clone, Copy)]
+pub struct Taken {
+    pub line: Begun,
+    pub written: Written,
+}
+
+// From here on a number is out of every range, and it need not be known by how much.
+const OUT_OF_RANGE: u64 = 1 << 32;
 
 // Nothing of a line.
 pub fn fresh() -> Begun
@@ -56,231 +55,140 @@ pub fn fresh() -> Begun
 pub fn write(text: &[u8], bytes: &mut [u8], at: usize) -> Written
     ensures { written result bytes.new ≡ text_call text.now bytes.old at }
 {
-    let taken = take(fresh(), text, bytes, at);
-    let answer = taken.answer;
-    match answer {
-        Asked::Accepted => Written {
-            messages: taken.messages,
-            place: taken.place,
-            answer: end(taken.line),
-        },
-        Asked::Refused(refusal) => Written {
-            messages: taken.messages,
-            place: taken.place,
-            answer: Asked::Refused(refusal),
-        },
+    let Taken { line, written } = take(fresh(), text, bytes, at);
+    Written {
+        answer: written.answer.and(end(line)),
+        ..written
     }
 }
 
 // The next bytes of a text, behind a line that was begun.
 #[tactic(auto, using(crate::proofs::Pieces::goes_on, crate::proofs::Pieces::line_written, crate::proofs::Pieces::nothing_left))]
-pub fn take(line: Begun, piece: &[u8], bytes: &mut [u8], at: usize) -> Taken
+pub fn take(mut line: Begun, piece: &[u8], bytes: &mut [u8], at: usize) -> Taken
     ensures { taken result bytes.new ≡ piece_call line piece.now 0 bytes.old at }
 {
-    let mut line = line;
-    let mut messages: usize = 0;
-    let mut place = at;
-    let mut i: usize = 0;
-    while i < piece.len() {
-        let byte = piece[i];
-        i += 1;
+    let mut written = Written {
+        messages: 0,
+        place: at,
+        answer: Ok(()),
+    };
+    for &byte in piece {
         if byte == b'\n' {
-            let answer = line_end(line, bytes, place);
-            match answer {
-                Asked::Accepted => {}
-                Asked::Refused(refusal) => {
-                    return Taken {
-                        line,
-                        messages,
-                        place,
-                        answer: Asked::Refused(refusal),
-                    };
-                }
+            written.answer = line.line_end(bytes, written.place);
+            if written.answer.is_err() {
+                return Taken { line, written };
             }
             line = fresh();
-            messages += 1;
-            place += message::SIZE;
+            written.messages += 1;
+            written.place += message::SIZE;
         } else {
-            line = next(line, byte);
+            line.next(byte);
         }
     }
-    Taken {
-        line,
-        messages,
-        place,
-        answer: Asked::Accepted,
-    }
+    Taken { line, written }
 }
 
 // The end of a text: a line that was begun lacks its line feed.
-#[tactic(auto, unfolding(crate::specs::Machine::end_call, crate::specs::Machine::begun))]
-pub fn end(line: Begun) -> Asked
-    ensures { asked result ≡ end_call line }
+#[tactic(auto, unfolding(crate::specs::Machine::end_call))]
+pub fn end(line: Begun) -> Result<(), Refusal>
+    ensures { replied result ≡ end_call line }
 {
-    if line.broken {
-        return Asked::Refused(Refusal::Form);
+    if line.is_begun() {
+        Err(Refusal::Form)
+    } else {
+        Ok(())
     }
-    if line.digits {
-        return Asked::Refused(Refusal::Form);
-    }
-    if 0 < line.count {
-        return Asked::Refused(Refusal::Form);
-    }
-    Asked::Accepted
 }
 
-// One byte more, which is no line feed.
-#[tactic(auto, unfolding(crate::specs::Machine::next))]
-fn next(line: Begun, byte: u8) -> Begun
-    ensures { result ≡ next line byte }
-{
-    if byte == b' ' {
-        return ends(line);
+impl Begun {
+    #[tactic(auto, unfolding(crate::specs::Machine::begun))]
+    fn is_begun(&self) -> bool
+        ensures { result ≡ begun self.now }
+    {
+        self.broken || self.digits || 0 < self.count
     }
-    let mut line = line;
-    if byte < b'0' {
-        line.broken = true;
-        return line;
-    }
-    if b'9' < byte {
-        line.broken = true;
-        return line;
-    }
-    line.value = tenfold(line.value, byte);
-    line.digits = true;
-    line
-}
 
-// From 2 to the 32nd on a number is out of every range, and it need not be known by how much.
-fn tenfold(value: u64, byte: u8) -> u64
-    requires { (48 ≤ byte) × (byte ≤ 57) }
-    ensures { result ≡ tenfold (capped value) byte }
-{
-    let digit = (byte - b'0') as u64;
-    if value < 4294967296 {
-        return value * 10 + digit;
-    }
-    42949672960 + digit
-}
-
-// A number ends.
-fn ends(line: Begun) -> Begun
-    ensures { result ≡ ends line }
-{
-    let mut line = line;
-    let count = line.count;
-    if line.digits {
-        if count < 6 {
-            line.numbers[count] = line.value;
-            line.count = count + 1;
-            line.value = 0;
-            line.digits = false;
-            return line;
+    // One byte more, which is no line feed.
+    #[tactic(auto, unfolding(crate::specs::Machine::next))]
+    fn next(&mut self, byte: u8)
+        ensures { self.new ≡ next self.old byte }
+    {
+        match byte {
+            b' ' => self.ends(),
+            b'0'..=b'9' => {
+                self.value = self.value.min(OUT_OF_RANGE) * 10 + u64::from(byte - b'0');
+                self.digits = true;
+            }
+            _ => self.broken = true,
         }
     }
-    line.broken = true;
-    line
-}
 
-// The line's message is written.
-#[tactic(auto, unfolding(crate::specs::Machine::line_end))]
-fn line_end(line: Begun, bytes: &mut [u8], at: usize) -> Asked
-    ensures { wrote result bytes.new ≡ line_end line bytes.old at }
-{
-    let read = said(ends(line));
-    match read {
-        Read::Message(m) => message::write(message::VERSION, m, bytes, at),
-        Read::Refused(refusal) => Asked::Refused(refusal),
-    }
-}
-
-// The message in the numbers of a line. A line that was handed in may have any count.
-#[tactic(auto, unfolding(crate::specs::Lines::read_numbers))]
-fn said(line: Begun) -> Read
-    ensures { read_of result ≡ says line }
-{
-    if line.broken {
-        return Read::Refused(Refusal::Form);
-    }
-    let count = rules::least(line.count, 6);
-    let numbers = line.numbers;
-    if !formed(&numbers, count) {
-        return Read::Refused(Refusal::Form);
-    }
-    if !small(&numbers, count) {
-        return Read::Refused(Refusal::Range);
-    }
-    Read::Message(message_of(&numbers, count))
-}
-
-// Version 1, a known kind, and as many numbers behind it as the kind has fields.
-#[tactic(auto, using(crate::proofs::Numbers::too_few, crate::proofs::Numbers::counted), unfolding(crate::specs::Lines::field_parts, rules::specs::Messages::layout))]
-fn formed(numbers: &[u64; 6], count: usize) -> bool
-    requires { (count ≤ 6) × (count ≤ length numbers.now) }
-    ensures { result ≡ formed (take count numbers.now) }
-{
-    if count < 2 {
-        return false;
-    }
-    if numbers[0] != 1 {
-        return false;
-    }
-    let kind = numbers[1];
-    match kind {
-        1 => count == 6,
-        2 => count == 5,
-        3 => count == 2,
-        4 => count == 3,
-        _ => false,
-    }
-}
-
-fn small(numbers: &[u64; 6], count: usize) -> bool
-    requires { (count ≤ 6) × (count ≤ length numbers.now) }
-    ensures { result ≡ all has_32_bits (take count numbers.now) }
-{
-    for i in 0..count {
-        if numbers[i] >= 4294967296 {
-            return false;
+    // A number ends. It has a digit, and no line has a seventh.
+    fn ends(&mut self)
+        ensures { self.new ≡ ends self.old }
+    {
+        if self.digits && self.count < self.numbers.len() {
+            self.numbers[self.count] = self.value;
+            self.count += 1;
+            self.value = 0;
+            self.digits = false;
+        } else {
+            self.broken = true;
         }
     }
-    true
-}
 
-// The fields stand in byte order behind the kind. The last arm is the clock's.
-#[tactic(auto, using(crate::proofs::Numbers::made_of))]
-fn message_of(numbers: &[u64; 6], count: usize) -> Message
-    requires { Formed count numbers.now }
-    ensures { result ≡ of_numbers (take count numbers.now) }
-{
-    let kind = numbers[1];
-    let a = low(numbers[2]);
-    let b = low(numbers[3]);
-    let c = low(numbers[4]);
-    let d = low(numbers[5]);
-    match kind {
-        1 => message(1, a, b, c, d),
-        2 => message(2, a, b, c, 0),
-        3 => message(3, 0, 0, 0, 0),
-        _ => message(4, 0, a, 0, 0),
+    // The line's message is written.
+    #[tactic(auto, unfolding(crate::specs::Machine::line_end))]
+    fn line_end(mut self, bytes: &mut [u8], at: usize) -> Result<(), Refusal>
+        ensures { wrote result bytes.new ≡ line_end self bytes.old at }
+    {
+        self.ends();
+        let message = self.said()?;
+        message::write(message::VERSION, message, bytes, at)
+    }
+
+    // The message in the numbers of a line. A line that was handed in may have any count.
+    #[tactic(auto, unfolding(crate::specs::Lines::read_numbers))]
+    fn said(&self) -> Result<Message, Refusal>
+        ensures { replied result ≡ says self.now }
+    {
+        if self.broken {
+            return Err(Refusal::Form);
+        }
+        message_of(&self.numbers[..self.count.min(self.numbers.len())])
     }
 }
 
-fn message(kind: u32, byte: u32, first: u32, second: u32, third: u32) -> Message
-    ensures { result ≡ record { kind = kind; byte = byte; first = first; second = second; third = third } }
+// Version 1, a known kind, and as many numbers behind it as the kind has fields, each of 32 bits.
+#[tactic(auto, unfolding(crate::specs::Lines::read_numbers, crate::specs::Lines::formed, crate::specs::Lines::of_numbers, crate::specs::Lines::field_parts, rules::specs::Messages::layout))]
+fn message_of(numbers: &[u64]) -> Result<Message, Refusal>
+    ensures { replied result ≡ read_numbers true numbers.now }
 {
-    Message {
+    match *numbers {
+        [1, 1, mask, window, slide, k] => in_words(1, mask, window, slide, k),
+        [1, 2, topic, id, score] => in_words(2, topic, id, score, 0),
+        [1, 3] => in_words(3, 0, 0, 0, 0),
+        [1, 4, target] => in_words(4, 0, target, 0, 0),
+        _ => Err(Refusal::Form),
+    }
+}
+
+// The message with these numbers in byte 6 and at bytes 8, 12 and 16, if 32 bits hold each.
+fn in_words(kind: u32, byte: u64, first: u64, second: u64, third: u64) -> Result<Message, Refusal>
+    ensures { replied result ≡ in_words (record { kind = kind; byte = byte; first = first; second = second; third = third }) }
+{
+    Ok(Message {
         kind,
-        byte,
-        first,
-        second,
-        third,
-    }
+        byte: in_word(byte)?,
+        first: in_word(first)?,
+        second: in_word(second)?,
+        third: in_word(third)?,
+    })
 }
 
-// A number that 32 bits hold, in 32 bits.
-fn low(number: u64) -> u32
-    ensures { result ≡ number % 2 ^ 32 }
+// The number, if 32 bits hold it.
+fn in_word(number: u64) -> Result<u32, Refusal>
+    ensures { replied result ≡ in_word number }
 {
-    (number % 4294967296) as u32
+    u32::try_from(number).map_err(|_| Refusal::Range)
 }
