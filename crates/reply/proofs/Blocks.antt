@@ -17,7 +17,7 @@ unfolding entry_words
 words_length [] = refl
 words_length (e ∷ es) = omega (arith, words_length es)
 
-block_length : (number : ℕ) (b : Board) (T : ℕ) (es : List Entry) → length (block number (shown_at b T es)) ≤ 2 + 3 * min b.k (length es)
+pub block_length : (number : ℕ) (b : Board) (T : ℕ) (es : List Entry) → length (block number (shown_at b T es)) ≤ 2 + 3 * min b.k (length es)
 block_length number b T es =
     omega (arith, words_length (shown_at b T es), length-take b.k (those (in_window b T) es), those_fewer (in_window b T) es)
 

@@ -1,3 +1,3 @@
 pub mod Blocks
 pub mod Filling
-pub mod Gathering
+pub mod Showing
