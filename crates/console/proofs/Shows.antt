@@ -1,69 +1,61 @@
--- Of a desk's answer to a message: a step's blocks stand in the reply, and a step that stopped short of its target moved the clock on.
-use Rattle.std.proofs.Common.{◌≡◌, ℕ, zero, suc, ◌+◌, ◌-◌, ◌*◌, ◌<◌, ◌≤◌, Bool, true, false, cond, eqb, List, [], ◌∷◌, ◌++◌, length, take, drop, sym, refl, subst, inl, inr, append_assoc, sub-one, arith, length-append, length-drop, take_all, eqb-true, leb-true}
-use borrow.Author.Tests.{not-true, not-false, eqb-false}
-use lib.Seq.{drop-append_seam}
-use Rattle.lists.specs.Views.{count}
-use Rattle.lists.proofs.Bools.{by, clash}
+-- Of a desk's answer to a message: a step's blocks are the first words of the reply, and a step that stopped short of its target moved the clock on.
+use Rattle.std.proofs.Common.{◌≡◌, ℕ, suc, ◌-◌, ◌*◌, ◌<◌, ◌≤◌, Bool, true, false, cond, eqb, List, [], ◌∷◌, ◌++◌, length, take, drop, slice_index, Some, Ok, sym, refl, ap, subst, inl, inr, arith, length-append, take_all, leb-true, eqb-true}
+use Rattle.std.proofs.Math.Seq.{take-append_seam, drop-append_seam}
+use borrow.Author.Tests.{not-false}
+use Rattle.lists.proofs.Bools.{by}
 use Rattle.rules.specs.Desk.{limit, within, loaded, listed}
 use Rattle.rules.specs.Moments.{is_moment, reached}
 use Rattle.rules.specs.Messages.{board_of}
 use Rattle.rules.specs.Refusals.{Rule, judged, step_rules, kind_rules}
-use Rattle.rules.specs.Calls.{Reply, Done, Outcome, StepOutcome, MessageOutcome, block, shown_at, blocks, moved_to, stays, board_call, request_call, open_call, step_call, message_call, onward, asked_by, stepped_by}
+use Rattle.rules.specs.Calls.{Reply, Done, Outcome, StepOutcome, MessageOutcome, entry_words, shown_at, blocks, moved_to, stays, board_call, request_call, open_call, step_call, message_call, onward, asked_by, stepped_by}
 use Rattle.rules.specs.Calls.Reply.{refused, accepted}
 use Rattle.rules.specs.Calls.Done.{done, moved}
-use Rattle.rules.specs.Replies.{answered}
 use Rattle.rules.specs.declared.Board.{Board}
 use Rattle.rules.specs.declared.Entry.{Entry}
 use Rattle.rules.specs.declared.Message.{Message}
 use Rattle.rules.specs.declared.Desk.{Desk}
-use Rattle.rules.specs.declared.Answered.{Answered}
+use Rattle.rules.specs.declared.Steps.{Steps}
 use Rattle.rules.proofs.Fitting.{all_slide}
-use Rattle.rules.proofs.Refusing.{None, judged_cases, in_order}
+use Rattle.rules.proofs.Refusing.{None as NoRule, judged_cases, in_order}
 use Rattle.rules.proofs.Stepping.{reached_is}
-use Rattle.desk.specs.Outcomes.{taken}
-use Rattle.desk.specs.declared.Taken.{Taken}
+use Rattle.desk.specs.Outcomes.{message_outcome}
 use Rattle.reply.proofs.Blocks.{words_length}
-use Rattle.console.specs.Steps.{short_of, block_end, Blocks, Shown}
+use Rattle.console.specs.Steps.{Blocks}
+use Rattle.console.specs.Steps.Blocks.{none, more}
 
--- of n blocks the first lies within the words, and the others stand in the part behind it
-abbrev pub Stands : ℕ → List ℕ → Type 0
-Stands n words = (block_end words ≤ length words) × Blocks (n - 1) (take (length words - block_end words) (drop (block_end words) words))
+-- the words behind the two at the front
+abbrev pub behind : List ℕ → List ℕ
+behind words = take (length words - 2) (drop 2 words)
 
-pub front : (n : ℕ) (words : List ℕ) → 0 < n → Blocks n words → Stands n words
-unfolding Blocks
-front zero words h s = absurd (omega arith)
-front (suc n) words h s = (
-  s.0,
-  rw (sub-one (suc n), take_all (length words - block_end words) (drop (block_end words) words) (simp length-drop (omega arith))) s.1,
-)
+-- the entries of the block at the front lie within them, and the other blocks stand behind these
+pub front : (words : List ℕ) → 2 ≤ length words → Blocks words
+    → (3 * slice_index words 1 ≤ length (behind words)) × Blocks (drop (3 * slice_index words 1) (behind words))
+front _ h none = absurd (omega arith)
+front _ h (more board shown entries others e b) =
+    let words : List ℕ = board ∷ shown ∷ entries ++ others in
+    let all : behind words ≡ entries ++ others = take_all (length words - 2) (entries ++ others) (omega arith) in
+    (omega (arith, length-append entries others, ap length all), rw (all, ← e, drop-append_seam entries others) b)
 
--- a block before others
-one : (number : ℕ) (shown : List Entry) (n : ℕ) (words : List ℕ) → Blocks n words → Blocks (suc n) (block number shown ++ words)
-unfolding Blocks
-one number shown n words others =
-    let e : 2 + 3 * length shown ≡ length (block number shown) = omega (arith, words_length shown) in (
-      omega (arith, words_length shown, length-append (block number shown) words),
-      rw (e, drop-append_seam (block number shown) words) others,
-    )
-
--- the blocks of the boards due at T, and whatever stands behind them
-stand : (number : ℕ) (bs : List Board) (T : ℕ) (es : List Entry) (after : List ℕ) → Blocks (count (λ b. is_moment b T) bs) (blocks number bs T es ++ after)
-unfolding Blocks blocks
-stand number [] T es after = tt
-stand number (b ∷ bs) T es after =
-    let others = stand (suc number) bs T es after in
+-- the blocks of the boards due at T
+stand : (number : ℕ) (bs : List Board) (T : ℕ) (es : List Entry) → Blocks (blocks number bs T es)
+unfolding blocks
+stand number [] T es = none
+stand number (b ∷ bs) T es =
+    let others = stand (suc number) bs T es in
     by (is_moment b T)
-    (λ e.
-    rw e
-    (subst (Blocks (suc (count (λ b. is_moment b T) bs))) (sym (append_assoc (block number (shown_at b T es)) (blocks (suc number) bs T es) after))
-    (one number (shown_at b T es) (count (λ b. is_moment b T) bs) (blocks (suc number) bs T es ++ after) others)))
+    (λ e. rw e (more number (length (shown_at b T es)) (entry_words (shown_at b T es)) (blocks (suc number) bs T es) (words_length (shown_at b T es)) others))
     (λ e. rw e others)
 
--- Of an accepted step from clock n: its blocks stand in the slice, and where it did not reach the target, the clock moved on.
+-- Of an accepted step from clock n: its words are blocks, and where it did not reach the target, the clock moved on.
+pub record Went (n target : ℕ) (d : Desk) (s : Steps) (slice : List ℕ) : Type 0 where
+  pub room : s.words ≤ length slice
+  pub shown : Blocks (take s.words slice)
+  pub rises : (s.clock ≡ target → ⊥) → (n < d.time.clock) × (d.time.clock ≤ limit)
+
 abbrev After : ℕ → ℕ → Desk → List ℕ → Reply Done → Type 0
 After n target d slice (refused r) = Unit {0}
 After n target d slice (accepted done) = Unit {0}
-After n target d slice (accepted (moved s)) = Blocks s.due slice × ((s.clock ≡ target → ⊥) → (n < d.time.clock) × (d.time.clock ≤ limit))
+After n target d slice (accepted (moved s)) = Went n target d s slice
 
 abbrev Sound : ℕ → ℕ → MessageOutcome → Type 0
 Sound n target o = After n target o.desk o.slice o.reply
@@ -73,7 +65,7 @@ cases : {A : Type 0} (P : A → Type 0) (b : Bool) (x y : A) → (b ≡ true →
 cases P true x y p q = p refl
 cases P false x y p q = q
 
-judging : {A : Type 0} (P : A → Type 0) (rs : List Rule) (refuse : ℕ → A) (accept : A) → ((n : ℕ) → P (refuse n)) → (None rs → P accept) → P (judged rs refuse accept)
+judging : {A : Type 0} (P : A → Type 0) (rs : List Rule) (refuse : ℕ → A) (accept : A) → ((n : ℕ) → P (refuse n)) → (NoRule rs → P accept) → P (judged rs refuse accept)
 judging P rs refuse accept p q =
     elim (judged_cases rs) [
       | inl h ↦ subst P (sym (h.same _ refuse accept)) (p h.no)
@@ -85,15 +77,20 @@ module _ (d : Desk) (target : ℕ) (slice : List ℕ) where
   Fine o = Sound d.time.clock target (stepped_by o)
 
   stayed : target ≡ d.time.clock → Fine (stays d slice)
-  unfolding Blocks
-  stayed e = (tt, λ short. absurd (short (sym e)))
+  stayed e = record { room = omega arith; shown = none; rises = λ short. absurd (short (sym e)) }
 
-  went : None (step_rules d target (length slice)) → Fine (moved_to d (reached (loaded d) d.time.clock target) slice)
+  went : NoRule (step_rules d target (length slice)) → Fine (moved_to d (reached (loaded d) d.time.clock target) slice)
   went h =
       let o = in_order d h.0 in
+      let T = reached (loaded d) d.time.clock target in
+      let words = blocks 0 (loaded d) T (listed d) in
       let fits : target ≤ limit = leb-true target limit (not-false _ h.1.0) in
       let r = reached_is d.time.clock target fits (loaded d) (λ b m. all_slide (loaded d) o.boards m) in
-      (stand 0 (loaded d) _ (listed d) _, λ short. elim r.stop [ inl s ↦ absurd (short s) | inr k ↦ (k.3, omega (arith, r.at_most)) ])
+      record {
+        room = omega (arith, length-append words (drop (length words) slice));
+        shown = rw (take-append_seam words (drop (length words) slice)) (stand 0 (loaded d) T (listed d));
+        rises = λ short. elim r.stop [ inl s ↦ absurd (short s) | inr k ↦ (k.3, omega (arith, r.at_most)) ];
+      }
 
   stepped : Fine (step_call d target slice)
   unfolding step_call
@@ -120,15 +117,7 @@ sound d m slice =
     (cases P (eqb m.kind 3) _ _ (λ _. asked n m.first slice (open_call d)) (stepped d m.first slice))))
     (judging (After n m.first d slice) (kind_rules d) refused (refused 4) (λ _. tt) (λ _. tt))
 
--- the same of a desk's answer
-pub record Took (d : Desk) (target : ℕ) (r : Taken) (reply : List ℕ) : Type 0 where
-  pub shown : Shown r.answer reply
-  pub rises : short_of r.answer target ≡ true → (d.time.clock < r.desk.time.clock) × (r.desk.time.clock ≤ limit)
-
-pub took : (d : Desk) (m : Message) (slice reply : List ℕ) (r : Taken) → taken r reply ≡ message_call d m slice → Took d m.first r reply
-took d m slice reply r e = told r.answer (subst (Sound d.time.clock m.first) (sym e) (sound d m slice))
-  where
-    told : (a : Answered) → After d.time.clock m.first r.desk reply (answered a) → Took d m.first (record { desk = r.desk; answer = a }) reply
-    told Answered.Accepted s = record { shown = tt; rises = λ e. clash e refl }
-    told (Answered.Reached clock due words) s = record { shown = s.0; rises = λ e. s.1 (eqb-false clock m.first (not-true _ e)) }
-    told (Answered.Refused refusal) s = record { shown = tt; rises = λ e. clash e refl }
+-- the same of a desk's answer to a message
+pub took : (d after : Desk) (m : Message) (slice reply : List ℕ) (s : Steps)
+    → message_outcome (Ok (Some s)) after reply ≡ message_call d m slice → Went d.time.clock m.first after s reply
+took d after m slice reply s e = subst (Sound d.time.clock m.first) (sym e) (sound d m slice)

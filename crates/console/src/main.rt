@@ -1,332 +1,151 @@
 // Document 01, "The console program": messages from standard input go to a desk, and what it answers is printed.
 #![tactic(auto)]
 
-ghost use Rattle.std.specs.Prelude.{◌≡◌, ◌+◌, ◌<◌, ◌≤◌, length};
-ghost use Rattle.console.specs.Output.{Waiting};
-ghost use Rattle.console.specs.Steps.{short_of, Blocks, Shown};
+ghost use Rattle.std.specs.Prelude.{◌<◌, ◌≤◌, IfSome};
+ghost use Rattle.console.specs.Steps.{Blocks};
 
-use rules::{Answered, Desk, Measured, Read, Refusal};
+use message::SIZE;
+use rules::{Desk, Message, Refusal};
+use std::fmt::Write;
+
+mod output;
+
+use output::Output;
 
 // The longest reply: 2 words for each of 32 boards, and 3 for each of 1,024 entries. So no step is refused with 12.
 const REPLY: usize = 3136;
 
-// No line is longer: a word of at most 8 bytes, and at most three numbers with a byte after each.
-const LINE: usize = 71;
+// What one read may give, and the last piece of the read before.
+const INPUT: usize = 65536;
 
-// The desk after some messages, how many they were, and how many bytes after them are no whole message.
-#[derive(Clone, Copy)]
-struct Progress {
+// A desk after some messages, how many they were, and where its steps' blocks are written.
+#[derive(Drop)]
+struct Lesson {
     desk: Desk,
     place: u64,
-    left: usize,
+    reply: [u32; REPLY],
 }
 
 fn main(rt: HostRuntime) {
-    let mut input = io::large_buffer();
-    let mut output = io::large_buffer();
-    let mut reply = [0u32; REPLY];
-    run(&rt, &mut rt.stdin(), &mut input, &mut reply, &mut output);
+    let mut input = [0u8; INPUT];
+    let mut lesson = Lesson {
+        desk: desk::fresh(),
+        place: 0,
+        reply: [0; REPLY],
+    };
+    let mut output = Output {
+        rt: &rt,
+        bytes: [0; output::ROOM],
+        waiting: 0,
+    };
+    run(&rt, &mut rt.stdin(), &mut input, &mut lesson, &mut output);
 }
 
 // To the end of the input. The reads are counted up to a number that no run reaches.
-fn run(
-    rt: &(impl Print + Eprint),
+fn run<R: Print + Eprint>(
+    rt: &R,
     stdin: &mut impl std::io::Read,
-    input: &mut [u8],
-    reply: &mut [u32],
-    output: &mut [u8],
-)
-    requires { (20 ≤ length input.old) × Waiting 0 output.old }
-{
-    let mut desk = desk::fresh();
-    let mut place: u64 = 0;
+    input: &mut [u8; INPUT],
+    lesson: &mut Lesson,
+    output: &mut Output<R>,
+) {
     let mut left: usize = 0;
     for _ in 0..u64::MAX {
-        let end = read_on(rt, stdin, input, left);
-        if end == left {
-            return finish(rt, desk, place, &input[..left], output);
-        }
-        let after = messages(rt, desk, place, &input[..end], reply, output);
-        desk = after.desk;
-        place = after.place;
-        left = after.left;
-        keep(input, end, left);
+        let Some(end) = read_on(rt, stdin, input, left) else {
+            return lesson.finish(&input[..left], output);
+        };
+        lesson.take_all(&input[..end], output);
+        output.write_out();
+        left = end % SIZE;
+        input.copy_within(end - left..end, 0);
     }
 }
 
-// One read behind the bytes that are left, and where the bytes end then: where they ended before if no more came.
-fn read_on(rt: &impl Eprint, stdin: &mut impl std::io::Read, input: &mut [u8], left: usize) -> usize
-    requires { left < length input.old }
-    ensures { (left ≤ result) × (result ≤ length input.new) }
+// One read behind the bytes that are left, and where the bytes end then; none where no more came.
+fn read_on(
+    rt: &impl Eprint,
+    stdin: &mut impl std::io::Read,
+    input: &mut [u8; INPUT],
+    left: usize,
+) -> Option<usize>
+    requires { left < INPUT }
+    ensures { IfSome result (λ end. end ≤ INPUT) }
 {
-    let space = &mut input[left..];
-    match stdin.read(space) {
-        Ok(got) => left + got,
+    match stdin.read(&mut input[left..]) {
+        Ok(0) => None,
+        Ok(got) => Some(left + got),
         Err(_) => {
             let _ = eprintln!(rt; "console: standard input cannot be read");
-            left
+            None
         }
     }
 }
 
-// The last bytes before the end go to the front.
-fn keep(input: &mut [u8], end: usize, left: usize)
-    requires { (left ≤ end) × (end ≤ length input.old) }
-{
-    for i in 0..left {
-        input[i] = input[end - left + i];
+impl Lesson {
+    // Takes every whole message.
+    fn take_all<R: Print + Eprint>(&mut self, input: &[u8], output: &mut Output<R>) {
+        for bytes in input.chunks_exact(SIZE) {
+            match message::read(bytes) {
+                Ok(message) => self.take(message, output),
+                Err(refusal) => self.refused(refusal, output),
+            }
+            // No input has 2 to the 64 messages.
+            self.place = self.place.wrapping_add(1);
+        }
     }
-}
 
-// Takes every whole message, and writes out what there is to say. A clock message is taken again until its target is reached.
-fn messages(
-    rt: &(impl Print + Eprint),
-    desk: Desk,
-    place: u64,
-    input: &[u8],
-    reply: &mut [u32],
-    output: &mut [u8],
-) -> Progress
-    requires { Waiting 0 output.old }
-    ensures { (result.left < 20) × (result.left ≤ length input.now) }
-{
-    let mut desk = desk;
-    let mut place = place;
-    let mut rest = input;
-    let mut at: usize = 0;
-    while message::SIZE <= rest.len() {
-        let read = message::read(rest);
-        match read {
-            Read::Message(m) => {
-                let taken = desk::take(desk, m, reply);
-                desk = taken.desk;
-                let answer = taken.answer;
-                at = put_answer(rt, answer, place, reply, output, at);
-                if short_of(answer, m.first) {
-                    continue;
+    // Takes a message, and a clock message again until its target is reached.
+    fn take<R: Print + Eprint>(&mut self, message: Message, output: &mut Output<R>) {
+        loop {
+            match desk::take(&mut self.desk, message, &mut self.reply) {
+                Ok(Some(steps)) => {
+                    put_blocks(steps.clock, &self.reply[..steps.words as usize], output);
+                    if steps.clock == message.first {
+                        return;
+                    }
                 }
-            }
-            Read::Refused(refusal) => {
-                at = put_refused(rt, place, refusal, output, at);
+                Ok(None) => return,
+                Err(refusal) => return self.refused(refusal, output),
             }
         }
-        let next = message::rest(rest);
-        rest = next;
-        // No input has 2 to the 64 messages.
-        place = std::num::wrapping_add_u64(place, 1);
     }
-    write_out(rt, output, at);
-    Progress {
-        desk,
-        place,
-        left: rest.len(),
-    }
-}
 
-// Whether a step stopped short of its target.
-fn short_of(answer: Answered, target: u32) -> bool
-    ensures { result ≡ short_of answer target }
-{
-    match answer {
-        Answered::Reached {
-            clock,
-            due: _,
-            words: _,
-        } => clock != target,
-        Answered::Accepted => false,
-        Answered::Refused(_) => false,
-    }
-}
-
-// The end of the run: a last piece that is no whole message, and the length of the list.
-fn finish(rt: &(impl Print + Eprint), desk: Desk, place: u64, piece: &[u8], output: &mut [u8])
-    requires { (length piece.now < 20) × Waiting 0 output.old }
-{
-    let at = put_last(rt, place, piece, output);
-    let end = put_held(rt, desk::length(desk), place, output, at);
-    write_out(rt, output, end);
-}
-
-// The reader refuses a last piece of 1 to 19 bytes.
-fn put_last(rt: &(impl Print + Eprint), place: u64, piece: &[u8], output: &mut [u8]) -> usize
-    requires { (length piece.now < 20) × Waiting 0 output.old }
-    ensures { Waiting result output.new }
-{
-    if piece.len() == 0 {
-        return 0;
-    }
-    match message::read(piece) {
-        Read::Message(_) => 0,
-        Read::Refused(refusal) => put_refused(rt, place, refusal, output, 0),
-    }
-}
-
-// No run from a fresh desk meets a refusal here.
-fn put_held(
-    rt: &(impl Print + Eprint),
-    held: Measured,
-    place: u64,
-    output: &mut [u8],
-    at: usize,
-) -> usize
-    requires { Waiting at output.old }
-    ensures { Waiting result output.new }
-{
-    match held {
-        Measured::Length(n) => {
-            let mut at = room(rt, output, at);
-            at = put(b"held ", output, at);
-            decimal(n as u64, b'\n', output, at)
+    // The end: a last piece that is no whole message, which the reader refuses, and the length of the list.
+    fn finish<R: Print + Eprint>(&self, piece: &[u8], output: &mut Output<R>) {
+        if !piece.is_empty() {
+            if let Err(refusal) = message::read(piece) {
+                self.refused(refusal, output);
+            }
         }
-        Measured::Refused(refusal) => put_refused(rt, place, refusal, output, at),
+        match desk::length(&self.desk) {
+            Ok(held) => {
+                let _ = writeln!(output, "held {held}");
+            }
+            Err(refusal) => self.refused(refusal, output),
+        }
+        output.write_out();
+    }
+
+    fn refused<R: Print + Eprint>(&self, refusal: Refusal, output: &mut Output<R>) {
+        let place = self.place;
+        let _ = writeln!(output, "refused {place} {refusal}");
     }
 }
 
-fn put_refused(
-    rt: &(impl Print + Eprint),
-    place: u64,
-    refusal: Refusal,
-    output: &mut [u8],
-    at: usize,
-) -> usize
-    requires { Waiting at output.old }
-    ensures { Waiting result output.new }
-{
-    let mut at = room(rt, output, at);
-    at = put(b"refused ", output, at);
-    at = decimal(place, b' ', output, at);
-    decimal(rules::number(refusal) as u64, b'\n', output, at)
-}
-
-fn put_answer(
-    rt: &(impl Print + Eprint),
-    answer: Answered,
-    place: u64,
-    reply: &[u32],
-    output: &mut [u8],
-    at: usize,
-) -> usize
-    requires { Waiting at output.old × Shown answer reply.now }
-    ensures { Waiting result output.new }
-{
-    match answer {
-        Answered::Reached {
-            clock,
-            due,
-            words: _,
-        } => put_blocks(rt, clock, due, reply, output, at),
-        Answered::Accepted => at,
-        Answered::Refused(refusal) => put_refused(rt, place, refusal, output, at),
-    }
-}
-
-// The blocks of the due boards, one behind the other.
+// The blocks of the due boards, one behind the other: a board's number, how many entries it shows, and id, score and tick of each.
 #[tactic(auto, using(crate::proofs::Shows::front))]
-fn put_blocks(
-    rt: &(impl Print + Eprint),
-    moment: u32,
-    due: u32,
-    reply: &[u32],
-    output: &mut [u8],
-    at: usize,
-) -> usize
-    requires { Waiting at output.old × Blocks due reply.now }
-    ensures { Waiting result output.new }
+fn put_blocks<R: Print + Eprint>(moment: u32, words: &[u32], output: &mut Output<R>)
+    requires { Blocks words.now }
 {
-    let mut rest = reply;
-    let mut at = at;
-    let mut left = due;
-    while 0 < left {
-        let board = rest[0];
-        let count = rest[1];
-        let end = 2 + 3 * count as usize;
-        at = put_board(rt, moment, board, count, output, at);
-        at = put_entries(rt, &rest[2..end], output, at);
-        rest = &rest[end..];
-        left -= 1;
+    let mut left = words;
+    while let [board, count, behind @ ..] = left {
+        let _ = writeln!(output, "answer {moment} {board} {count}");
+        let (entries, others) = behind.split_at(3 * *count as usize);
+        for entry in entries.chunks_exact(3) {
+            if let [id, score, tick] = entry {
+                let _ = writeln!(output, "{id} {score} {tick}");
+            }
+        }
+        left = others;
     }
-    at
-}
-
-fn put_board(
-    rt: &(impl Print + Eprint),
-    moment: u32,
-    board: u32,
-    count: u32,
-    output: &mut [u8],
-    at: usize,
-) -> usize
-    requires { Waiting at output.old }
-    ensures { Waiting result output.new }
-{
-    let mut at = room(rt, output, at);
-    at = put(b"answer ", output, at);
-    put_three(moment, board, count, output, at)
-}
-
-// A line of id, score and tick for each three words.
-fn put_entries(rt: &(impl Print + Eprint), words: &[u32], output: &mut [u8], at: usize) -> usize
-    requires { Waiting at output.old }
-    ensures { Waiting result output.new }
-{
-    let mut rest = words;
-    let mut at = at;
-    while 3 <= rest.len() {
-        at = room(rt, output, at);
-        at = put_three(rest[0], rest[1], rest[2], output, at);
-        rest = &rest[3..];
-    }
-    at
-}
-
-fn put_three(a: u32, b: u32, c: u32, output: &mut [u8], at: usize) -> usize
-    requires { at + 63 ≤ length output.old }
-    ensures { result ≤ at + 63 }
-{
-    let mut at = decimal(a as u64, b' ', output, at);
-    at = decimal(b as u64, b' ', output, at);
-    decimal(c as u64, b'\n', output, at)
-}
-
-// A number without leading zeros, and the byte after it.
-fn decimal(n: u64, after: u8, output: &mut [u8], at: usize) -> usize
-    requires { at + 21 ≤ length output.old }
-    ensures { result ≤ at + 21 }
-{
-    let mut text = [0u8; 20];
-    let size = io::decimal(n, &mut text);
-    let end = put(&text[..size], output, at);
-    output[end] = after;
-    end + 1
-}
-
-fn put(word: &[u8], output: &mut [u8], at: usize) -> usize
-    requires { at + length word.now ≤ length output.old }
-    ensures { result ≡ at + length word.now }
-{
-    for i in 0..word.len() {
-        output[at + i] = word[i];
-    }
-    at + word.len()
-}
-
-// Where the next line goes. What waits is written out first where the line might not fit behind it.
-fn room(rt: &(impl Print + Eprint), output: &[u8], at: usize) -> usize
-    requires { Waiting at output.now }
-    ensures { result + 71 ≤ length output.now }
-{
-    if output.len() - at < LINE {
-        write_out(rt, output, at);
-        return 0;
-    }
-    at
-}
-
-fn write_out(rt: &(impl Print + Eprint), output: &[u8], at: usize)
-    requires { at ≤ length output.now }
-{
-    if rt.write_all(&output[..at]).is_ok() {
-        return;
-    }
-    let _ = eprintln!(rt; "console: standard output cannot be written");
 }

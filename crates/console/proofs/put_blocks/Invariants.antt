@@ -1,10 +1,10 @@
--- At each turn the front block lies within what is left of the reply, and the others stand behind it; the measure counts them.
-use Rattle.console.specs.Output.{Waiting}
+-- What is left of the words are blocks; the measure is how many they are.
+use Rattle.std.proofs.Common.{length}
 use Rattle.console.specs.Steps.{Blocks}
 use Rattle.console.proofs.put_blocks.Given as goal
 
 abbrev pub invariant-loop-left : goal.invariant-loop-left
-invariant-loop-left g l = Waiting l.at l.output × Blocks l.left l.rest
+invariant-loop-left g l = Blocks l.left
 
 abbrev pub decreases-loop-left : goal.decreases-loop-left
-decreases-loop-left g l = l.left
+decreases-loop-left g l = length l.left
