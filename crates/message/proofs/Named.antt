@@ -15,6 +15,7 @@ use Rattle.rules.specs.Replies.{kind_of}
 use Rattle.rules.specs.declared.Kind.{Kind}
 use Rattle.message.proofs.Numbers.{zeros_taken}
 
+-- the number of a kind
 abbrev pub number_of : Kind → ℕ
 number_of Kind.Board = 1
 number_of Kind.Request = 2
@@ -24,6 +25,7 @@ number_of Kind.Clock = 4
 pub kind_is : (n : ℕ) (kind : Kind) → kind_of n ≡ Ok kind → n ≡ number_of kind
 kind_is n kind e = grind (arith, nat_tests)
 
+-- Zeros stand from a place on exactly if all bytes taken from there are zero.
 module _ (bytes : List ℕ) (h : length bytes ≡ 20) where
   pub open_zeros : kind_of (kind_at bytes) ≡ Ok Kind.Open → zeros_stand bytes (kind_at bytes) ≡ all (λ byte. eqb byte 0) (take 14 (drop 6 bytes))
   unfolding zeros_stand zero_places layout

@@ -95,7 +95,7 @@ zero_number bytes from (suc n) h =
     rw (drop-cons bytes from 0 (omega arith), zero_number bytes (suc from) n (omega arith))
     (sym (zero_first (get_or bytes from 0) (number_at bytes (suc from) n) (length (take n (drop (suc from) bytes)))))
 
--- Where all bytes from a place on are zero, the bytes that are taken from there are.
+-- Asked place by place or of the bytes that are taken from there, all are zero.
 pub zeros_taken : (bytes : List ℕ) (from size : ℕ) → from + size ≤ length bytes → all (is_zero bytes) (places from size) ≡ all (λ byte. eqb byte 0) (take size (drop from bytes))
 zeros_taken bytes from zero h = refl
 zeros_taken bytes from (suc n) h =

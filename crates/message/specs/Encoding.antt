@@ -1,4 +1,4 @@
--- What bytes and fields are as numbers, for the theorems of reading and writing.
+-- What bytes and fields are as numbers: for the theorems of reading and writing, and the last for what the reader has of all fields.
 use Rattle.std.specs.Prelude.{List, ℕ, ◌<◌, ◌^◌, length, get_or}
 use Rattle.rules.specs.Messages.{Holds, value_of, kind_at, number_at}
 use Rattle.rules.specs.declared.Message.{Message}

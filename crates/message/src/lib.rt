@@ -32,7 +32,7 @@ pub fn read(bytes: &[u8]) -> Result<Message, Refusal>
     read_front(front)
 }
 
-// The same of just 20 bytes: the array's type says that they are there.
+// The same of just 20 bytes; the array's type says that they are there.
 #[tactic(auto, using(crate::proofs::Numbers::kind_byte, crate::proofs::Parts::message_own, crate::proofs::Parts::own_fits, std::proofs::lemmas::Bool::Decides::nat_tests), unfolding(rules::specs::Calls::reader_call))]
 fn read_front(bytes: &[u8; SIZE]) -> Result<Message, Refusal>
     ensures { replied result ≡ reader_call bytes.now }
@@ -99,7 +99,7 @@ fn zero(bytes: &[u8]) -> bool
     bytes.iter().all(|byte| *byte == 0)
 }
 
-// The bytes that must be zero are.
+// The bytes that must be zero for the kind are.
 #[tactic(auto, using(crate::proofs::Named::open_zeros, crate::proofs::Named::clock_zeros), unfolding(rules::specs::Messages::zeros_stand, rules::specs::Messages::zero_places, rules::specs::Messages::layout))]
 fn zeros_stand(kind: Kind, bytes: &[u8; SIZE]) -> bool
     requires { kind_of (kind_at bytes.now) ≡ Ok kind }
@@ -113,7 +113,7 @@ fn zeros_stand(kind: Kind, bytes: &[u8; SIZE]) -> bool
     }
 }
 
-// A message whose number of a kind is one, and this kind.
+// A message whose number names a kind, and this kind.
 #[derive(Clone, Copy)]
 struct Known {
     kind: Kind,
