@@ -43,21 +43,18 @@ fn write_block(number: u32, board: Board, at: u32, listed: &[Entry], reply: &mut
     requires { 2 + 3 * board.k ≤ length reply.old }
     ensures { let words = block number (shown_at board at listed.now) in (result ≡ length words) × (reply.new ≡ written words reply.old) }
 {
-    reply[0] = number;
-    let mut shown: u32 = 0;
-    let mut end: usize = 2;
-    for e in listed {
-        if shown == board.k {
-            break;
-        }
-        if board.in_window(at, *e) {
-            write_entry(*e, &mut reply[end..]);
-            end += 3;
-            shown += 1;
-        }
+    let mut shown: usize = 0;
+    for e in listed
+        .iter()
+        .filter(|e| board.in_window(at, **e))
+        .take(board.k as usize)
+    {
+        write_entry(*e, &mut reply[2 + 3 * shown..]);
+        shown += 1;
     }
-    reply[1] = shown;
-    end
+    reply[0] = number;
+    reply[1] = shown as u32;
+    2 + 3 * shown
 }
 
 // Each due board's block is written into what remains of the reply.
