@@ -1,7 +1,7 @@
 -- A whole text taken as one piece, with its end, is its lines one after the other: by induction on the bytes, over the line that was begun before them.
 use mathlib.Core.Path.{◌≡◌, refl, ap, ◌∙◌}
 use mathlib.Core.List.{List, [], ◌∷◌, ◌++◌}
-use mathlib.Core.Bool.{true, ◌&&◌}
+use mathlib.Core.Bool.{true, ◌&&◌, or-true}
 use Prim.Native.Nat.{ℕ, ◌+◌}
 use native.Mathlib.Omega.{arith}
 use borrow.Author.Tests.{lt-ltb}
@@ -19,7 +19,7 @@ use Rattle.rules.specs.declared.Refusal.{Refusal}
 use Rattle.text.specs.declared.Begun.{Begun}
 use Rattle.text.specs.declared.Taken.{Taken}
 use Rattle.text.proofs.Splitting.{pieces}
-use Rattle.text.proofs.Reading.{fed, or-true, says_line}
+use Rattle.text.proofs.Reading.{fed, says_line}
 
 -- A byte begins a line, and a line that was begun stays so.
 begins : (s : Begun) (byte : ℕ) → begun (next s byte) ≡ true

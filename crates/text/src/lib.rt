@@ -160,7 +160,7 @@ impl Begun {
 }
 
 // Version 1, a known kind, and as many numbers behind it as the kind has fields, each of 32 bits.
-#[tactic(auto, unfolding(crate::specs::Lines::read_numbers, crate::specs::Lines::formed, crate::specs::Lines::of_numbers, crate::specs::Lines::field_parts, rules::specs::Messages::layout))]
+#[tactic(auto, using(crate::proofs::Numbers::board_read), unfolding(crate::specs::Lines::read_numbers, crate::specs::Lines::formed, crate::specs::Lines::of_numbers, crate::specs::Lines::field_parts, rules::specs::Messages::layout))]
 fn message_of(numbers: &[u64]) -> Result<Message, Refusal>
     ensures { replied result ≡ read_numbers true numbers.now }
 {
