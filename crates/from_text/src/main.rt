@@ -16,7 +16,7 @@ const ROOM: usize = PIECE * message::SIZE;
 
 // A line that is refused, counted from 0.
 #[derive(Clone, Copy)]
-struct Refused {
+struct RefusedLine {
     place: u64,
     refusal: Refusal,
     ghost never_for_room: { number refusal ≢ 14 },
@@ -27,7 +27,7 @@ struct Refused {
 enum Stop {
     Unreadable,
     Unwritable,
-    Line(Refused),
+    Refused(RefusedLine),
 }
 
 impl fmt::Display for Stop {
@@ -35,7 +35,7 @@ impl fmt::Display for Stop {
         match *self {
             Stop::Unreadable => write!(f, "from_text: standard input cannot be read"),
             Stop::Unwritable => write!(f, "from_text: standard output cannot be written"),
-            Stop::Line(Refused { place, refusal }) => write!(f, "refused {place} {refusal}"),
+            Stop::Refused(RefusedLine { place, refusal }) => write!(f, "refused {place} {refusal}"),
         }
     }
 }
@@ -104,7 +104,7 @@ impl Progress {
     fn refused(self, refusal: Refusal) -> Stop
         requires { number refusal ≢ 14 }
     {
-        Stop::Line(Refused {
+        Stop::Refused(RefusedLine {
             place: self.place,
             refusal,
         })

@@ -1,6 +1,7 @@
 pub mod Capping
 pub mod EachKind
 pub mod Grammar
+pub mod Numbers
 pub mod Pieces
 pub mod Reading
 pub mod Room

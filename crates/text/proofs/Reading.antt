@@ -1,7 +1,7 @@
 -- The bytes of a line, one after the other, leave what its words say: by induction on the bytes, over the line that was begun before them.
 use mathlib.Core.Path.{◌≡◌, refl, sym, subst, ap, ◌∙◌}
 use mathlib.Core.List.{List, [], ◌∷◌, ◌++◌, map, append_assoc}
-use mathlib.Core.Bool.{Bool, true, false, not, ◌&&◌, ◌||◌, and-eq-true_iff}
+use mathlib.Core.Bool.{Bool, true, false, not, ◌&&◌, ◌||◌, and-eq-true_iff, and-true, and-false, or-true}
 use Prim.Native.Nat.{ℕ, suc, ◌+◌, ◌≤◌, ◌<◌}
 use native.Mathlib.Omega.{arith}
 use native.Mathlib.Nat.{zero-add}
@@ -52,18 +52,6 @@ stays (byte ∷ bytes) s e =
     by (eqb byte 32)
     (λ g. stays bytes (next s byte) (rw (f, g) (by (s.digits && ltb s.count 6) (λ h. rw (h, e)) (λ h. rw h))))
     (λ g. stays bytes (next s byte) (rw (f, g))))
-
-and-true : (b : Bool) → (b && true) ≡ b
-and-true true = refl
-and-true false = refl
-
-and-false : (b : Bool) → (b && false) ≡ false
-and-false true = refl
-and-false false = refl
-
-pub or-true : (b : Bool) → (b || true) ≡ true
-or-true true = refl
-or-true false = refl
 
 cap_at : (xs ys : List ℕ) (a b : ℕ) → capped a ≡ capped b → map capped (xs ++ (a ∷ ys)) ≡ map capped (xs ++ (b ∷ ys))
 cap_at [] ys a b e = ap (λ n. n ∷ map capped ys) e

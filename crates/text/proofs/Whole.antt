@@ -1,7 +1,7 @@
 -- A whole text taken as one piece, with its end, is its lines one after the other: by induction on the bytes, over the line that was begun before them.
 use mathlib.Core.Path.{◌≡◌, refl, ap, ◌∙◌}
 use mathlib.Core.List.{List, [], ◌∷◌, ◌++◌}
-use mathlib.Core.Bool.{true, ◌&&◌}
+use mathlib.Core.Bool.{true, ◌&&◌, or-true}
 use Prim.Native.Nat.{ℕ, ◌+◌}
 use native.Mathlib.Omega.{arith}
 use borrow.Author.Tests.{lt-ltb}
@@ -19,7 +19,7 @@ use Rattle.rules.specs.declared.Refusal.{Refusal}
 use Rattle.text.specs.declared.Begun.{Begun}
 use Rattle.text.specs.declared.Taken.{Taken}
 use Rattle.text.proofs.Splitting.{pieces}
-use Rattle.text.proofs.Reading.{fed, or-true, says_line}
+use Rattle.text.proofs.Reading.{fed, says_line}
 
 -- A byte begins a line, and a line that was begun stays so.
 begins : (s : Begun) (byte : ℕ) → begun (next s byte) ≡ true
@@ -60,9 +60,10 @@ unfolding lines_from
 from_onto s byte line [] messages slice at = refl
 from_onto s byte line (next ∷ rest) messages slice at = refl
 
-closed_on : (r : Reply Unit) (a : ℕ → PieceOutcome) (b : PieceOutcome) → closed (on_reply r a (λ _. b)) ≡ on_reply r (λ n. closed (a n)) (λ _. closed b)
-closed_on (refused n) a b = refl
-closed_on (accepted _) a b = refl
+-- what a function makes of a choice by a reply is the choice of what it makes
+through : {B C : Type 0} (f : B → C) (r : Reply Unit) (a : ℕ → B) (b : B) → f (on_reply r a (λ _. b)) ≡ on_reply r (λ n. f (a n)) (λ _. f b)
+through f (refused n) a b = refl
+through f (accepted _) a b = refl
 
 taken_whole : (text : List ℕ) (s : Begun) (messages : ℕ) (slice : List ℕ) (at : ℕ) → closed (piece_call s text messages slice at) ≡ lines_from s (split 10 text) messages slice at
 unfolding piece_call split lines_from
@@ -72,7 +73,7 @@ taken_whole (byte ∷ bytes) s messages slice at =
     by (eqb byte 10)
     (λ e.
     rw (e, p.same)
-    (closed_on (line_end s slice at).reply (λ n. leaving s (so_far messages at (line_end s slice at).slice (refused n))) (piece_call fresh bytes (messages + 1) (line_end s slice at).slice (at + 20))
+    (through closed (line_end s slice at).reply (λ n. leaving s (so_far messages at (line_end s slice at).slice (refused n))) (piece_call fresh bytes (messages + 1) (line_end s slice at).slice (at + 20))
     ∙ ap (λ (o : TextOutcome). on_reply (line_end s slice at).reply (λ n. so_far messages at (line_end s slice at).slice (refused n)) (λ _. o))
     (taken_whole bytes fresh (messages + 1) (line_end s slice at).slice (at + 20) ∙ ap (λ l. lines_from fresh l (messages + 1) (line_end s slice at).slice (at + 20)) p.same)))
     (λ e.
@@ -99,27 +100,23 @@ from_fresh (line ∷ next ∷ rest) messages slice at =
 pub whole_text : (text slice : List ℕ) (at : ℕ) → closed (piece_call fresh text 0 slice at) ≡ text_call text slice at
 whole_text text slice at = taken_whole text fresh 0 slice at ∙ from_fresh (split 10 text) 0 slice at
 
-ended_too : (s : Begun) (messages place : ℕ) (after : List ℕ) (a b : Result Unit Refusal) → replied b ≡ end_call s
+closes : (s : Begun) (messages place : ℕ) (after : List ℕ) (a b : Result Unit Refusal) → replied b ≡ end_call s
     → so_far messages place after (replied (result_and a b)) ≡ closed (leaving s (so_far messages place after (replied a)))
-ended_too s messages place after (Ok _) b e = ap (so_far messages place after) e
-ended_too s messages place after (Err r) b e = refl
+closes s messages place after (Ok _) b e = ap (so_far messages place after) e
+closes s messages place after (Err r) b e = refl
 
 -- What came of the whole text as a piece, and then of its end.
 pub to_the_end : (r : Taken) (s : Begun) (after text slice : List ℕ) (at : ℕ) (a b : Result Unit Refusal) → taken r after ≡ piece_call s text 0 slice at → s ≡ fresh → replied a ≡ end_call r.line
     → b ≡ result_and r.written.answer a → so_far r.written.messages r.written.place after (replied b) ≡ text_call text slice at
 to_the_end r s after text slice at a b promised begins e f =
     rw f
-    (ended_too r.line r.written.messages r.written.place after r.written.answer a e
+    (closes r.line r.written.messages r.written.place after r.written.answer a e
     ∙ ap closed (promised ∙ ap (λ x. piece_call x text 0 slice at) begins)
     ∙ whole_text text slice at)
 
 -- Pieces of any size: one piece behind another is the two joined.
 pub further : PieceOutcome → List ℕ → PieceOutcome
 further o piece = on_reply o.text.reply (λ n. o) (λ _. piece_call o.line piece o.text.messages o.text.slice o.text.place)
-
-further_on : (r : Reply Unit) (a : ℕ → PieceOutcome) (b : PieceOutcome) (piece : List ℕ) → further (on_reply r a (λ _. b)) piece ≡ on_reply r (λ n. further (a n) piece) (λ _. further b piece)
-further_on (refused n) a b piece = refl
-further_on (accepted _) a b piece = refl
 
 pub piece_by_piece : (one two : List ℕ) (s : Begun) (messages : ℕ) (slice : List ℕ) (at : ℕ)
     → further (piece_call s one messages slice at) two ≡ piece_call s (one ++ two) messages slice at
@@ -129,7 +126,7 @@ piece_by_piece (byte ∷ bytes) two s messages slice at =
     by (eqb byte 10)
     (λ e.
     rw e
-    (further_on (line_end s slice at).reply (λ n. leaving s (so_far messages at (line_end s slice at).slice (refused n))) (piece_call fresh bytes (messages + 1) (line_end s slice at).slice (at + 20)) two
+    (through (λ o. further o two) (line_end s slice at).reply (λ n. leaving s (so_far messages at (line_end s slice at).slice (refused n))) (piece_call fresh bytes (messages + 1) (line_end s slice at).slice (at + 20))
     ∙ ap (λ (o : PieceOutcome). on_reply (line_end s slice at).reply (λ n. leaving s (so_far messages at (line_end s slice at).slice (refused n))) (λ _. o))
     (piece_by_piece bytes two fresh (messages + 1) (line_end s slice at).slice (at + 20))))
     (λ e. rw e (piece_by_piece bytes two (next s byte) messages slice at))

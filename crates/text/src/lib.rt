@@ -4,7 +4,7 @@
 ghost use Rattle.std.specs.Prelude.{◌≡◌, true};
 ghost use Rattle.message.specs.Outcomes.{wrote};
 ghost use Rattle.rules.specs.Replies.{replied};
-ghost use Rattle.text.specs.Lines.{read_numbers, has_32_bits, text_call};
+ghost use Rattle.text.specs.Lines.{read_numbers, text_call};
 ghost use Rattle.text.specs.Machine.{fresh, next, ends, says, line_end, begun, end_call, piece_call, taken, written, in_word, in_words};
 
 use rules::{Message, Refusal};
@@ -159,8 +159,9 @@ impl Begun {
     }
 }
 
-// Version 1, a known kind, and as many numbers behind it as the kind has fields, each of 32 bits.
-#[tactic(auto, unfolding(crate::specs::Lines::read_numbers, crate::specs::Lines::formed, crate::specs::Lines::of_numbers, crate::specs::Lines::field_parts, rules::specs::Messages::layout))]
+// Version 1, a known kind, and as many numbers behind it as the kind has fields, each of 32 bits. The kinds stay numbers: a line gives one and a message holds
+// one, and so the four lines stand here as they are written; a `Kind` between would only be made and turned back.
+#[tactic(auto, using(crate::proofs::Numbers::board_read), unfolding(crate::specs::Lines::read_numbers, crate::specs::Lines::formed, crate::specs::Lines::of_numbers, crate::specs::Lines::field_parts, rules::specs::Messages::layout))]
 fn message_of(numbers: &[u64]) -> Result<Message, Refusal>
     ensures { replied result ≡ read_numbers true numbers.now }
 {
