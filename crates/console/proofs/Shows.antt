@@ -20,7 +20,7 @@ use Rattle.rules.proofs.Refusing.{None as NoRule, judged_cases, in_order}
 use Rattle.rules.proofs.Stepping.{reached_is}
 use Rattle.desk.specs.Outcomes.{message_outcome}
 use Rattle.reply.proofs.Blocks.{words_length}
-use Rattle.console.specs.Steps.{Blocks}
+use Rattle.console.specs.Steps.{Blocks, Shown}
 use Rattle.console.specs.Steps.Blocks.{none, more}
 
 -- the words behind the two at the front
@@ -48,8 +48,7 @@ stand number (b ∷ bs) T es =
 
 -- Of an accepted step from clock n: its words are blocks, and where it did not reach the target, the clock moved on.
 pub record Went (n target : ℕ) (d : Desk) (s : Steps) (slice : List ℕ) : Type 0 where
-  pub room : s.words ≤ length slice
-  pub shown : Blocks (take s.words slice)
+  pub shown : Shown s slice
   pub rises : (s.clock ≡ target → ⊥) → (n < d.time.clock) × (d.time.clock ≤ limit)
 
 abbrev After : ℕ → ℕ → Desk → List ℕ → Reply Done → Type 0
@@ -77,7 +76,7 @@ module _ (d : Desk) (target : ℕ) (slice : List ℕ) where
   Fine o = Sound d.time.clock target (stepped_by o)
 
   stayed : target ≡ d.time.clock → Fine (stays d slice)
-  stayed e = record { room = omega arith; shown = none; rises = λ short. absurd (short (sym e)) }
+  stayed e = record { shown = (omega arith, none); rises = λ short. absurd (short (sym e)) }
 
   went : NoRule (step_rules d target (length slice)) → Fine (moved_to d (reached (loaded d) d.time.clock target) slice)
   went h =
@@ -87,8 +86,10 @@ module _ (d : Desk) (target : ℕ) (slice : List ℕ) where
       let fits : target ≤ limit = leb-true target limit (not-false _ h.1.0) in
       let r = reached_is d.time.clock target fits (loaded d) (λ b m. all_slide (loaded d) o.boards m) in
       record {
-        room = omega (arith, length-append words (drop (length words) slice));
-        shown = rw (take-append_seam words (drop (length words) slice)) (stand 0 (loaded d) T (listed d));
+        shown = (
+          omega (arith, length-append words (drop (length words) slice)),
+          rw (take-append_seam words (drop (length words) slice)) (stand 0 (loaded d) T (listed d)),
+        );
         rises = λ short. elim r.stop [ inl s ↦ absurd (short s) | inr k ↦ (k.3, omega (arith, r.at_most)) ];
       }
 
@@ -118,6 +119,6 @@ sound d m slice =
     (judging (After n m.first d slice) (kind_rules d) refused (refused 4) (λ _. tt) (λ _. tt))
 
 -- the same of a desk's answer to a message
-pub took : (d after : Desk) (m : Message) (slice reply : List ℕ) (s : Steps)
+pub took : (d : Desk) (m : Message) (slice : List ℕ) {after : Desk} {reply : List ℕ} {s : Steps}
     → message_outcome (Ok (Some s)) after reply ≡ message_call d m slice → Went d.time.clock m.first after s reply
-took d after m slice reply s e = subst (Sound d.time.clock m.first) (sym e) (sound d m slice)
+took d m slice {after} {reply} {s} e = subst (Sound d.time.clock m.first) (sym e) (sound d m slice)

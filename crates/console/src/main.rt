@@ -2,69 +2,59 @@
 #![tactic(auto)]
 
 ghost use Rattle.std.specs.Prelude.{◌<◌, ◌≤◌, IfSome};
-ghost use Rattle.console.specs.Steps.{Blocks};
-
-use message::SIZE;
-use rules::{Desk, Message, Refusal};
-use std::fmt::Write;
+ghost use Rattle.console.specs.Steps.{Shown};
 
 mod output;
 
+use message::SIZE;
 use output::Output;
+use rules::{Desk, Message, Refusal, Steps};
+use std::fmt::Write;
+use std::io::Read;
 
 // The longest reply: 2 words for each of 32 boards, and 3 for each of 1,024 entries. So no step is refused with 12.
 const REPLY: usize = 3136;
 
-// What one read may give, and the last piece of the read before.
+// What one read may give, and the piece of a message that is left of the read before.
 const INPUT: usize = 65536;
 
-// A desk after some messages, how many they were, and where its steps' blocks are written.
+// A desk after some messages, how many they were, the words that its last step wrote, and where its answers are printed.
 #[derive(Drop)]
-struct Lesson {
+struct Lesson<'a, R> {
     desk: Desk,
     place: u64,
     reply: [u32; REPLY],
+    output: Output<'a, R>,
 }
 
 fn main(rt: HostRuntime) {
+    run(&rt, &mut rt.stdin());
+}
+
+// To the end of the input. The reads are counted up to a number that no run reaches.
+fn run<R: Print + Eprint>(rt: &R, stdin: &mut impl Read) {
     let mut input = [0u8; INPUT];
     let mut lesson = Lesson {
         desk: desk::fresh(),
         place: 0,
         reply: [0; REPLY],
+        output: Output::new(rt),
     };
-    let mut output = Output {
-        rt: &rt,
-        bytes: [0; output::ROOM],
-        waiting: 0,
-    };
-    run(&rt, &mut rt.stdin(), &mut input, &mut lesson, &mut output);
-}
-
-// To the end of the input. The reads are counted up to a number that no run reaches.
-fn run<R: Print + Eprint>(
-    rt: &R,
-    stdin: &mut impl std::io::Read,
-    input: &mut [u8; INPUT],
-    lesson: &mut Lesson,
-    output: &mut Output<R>,
-) {
     let mut left: usize = 0;
     for _ in 0..u64::MAX {
-        let Some(end) = read_on(rt, stdin, input, left) else {
-            return lesson.finish(&input[..left], output);
+        let Some(end) = read_on(rt, stdin, &mut input, left) else {
+            return lesson.finish(&input[..left]);
         };
-        lesson.take_all(&input[..end], output);
-        output.write_out();
+        lesson.take_all(&input[..end]);
         left = end % SIZE;
         input.copy_within(end - left..end, 0);
     }
 }
 
-// One read behind the bytes that are left, and where the bytes end then; none where no more came.
+// One read behind the bytes that are left, and where the bytes end then; nothing where no more came.
 fn read_on(
     rt: &impl Eprint,
-    stdin: &mut impl std::io::Read,
+    stdin: &mut impl Read,
     input: &mut [u8; INPUT],
     left: usize,
 ) -> Option<usize>
@@ -81,71 +71,77 @@ fn read_on(
     }
 }
 
-impl Lesson {
-    // Takes every whole message.
-    fn take_all<R: Print + Eprint>(&mut self, input: &[u8], output: &mut Output<R>) {
+impl<R: Print + Eprint> Lesson<'_, R> {
+    // Takes every whole message, and writes out what there is to say.
+    fn take_all(&mut self, input: &[u8]) {
         for bytes in input.chunks_exact(SIZE) {
             match message::read(bytes) {
-                Ok(message) => self.take(message, output),
-                Err(refusal) => self.refused(refusal, output),
+                Ok(message) => self.take(message),
+                Err(refusal) => self.refuse(refusal),
             }
             // No input has 2 to the 64 messages.
             self.place = self.place.wrapping_add(1);
         }
+        self.output.write_out();
     }
 
-    // Takes a message, and a clock message again until its target is reached.
-    fn take<R: Print + Eprint>(&mut self, message: Message, output: &mut Output<R>) {
+    // Takes a message: a clock message again and again, until its target is reached.
+    fn take(&mut self, message: Message) {
         loop {
             match desk::take(&mut self.desk, message, &mut self.reply) {
                 Ok(Some(steps)) => {
-                    put_blocks(steps.clock, &self.reply[..steps.words as usize], output);
+                    put_blocks(&mut self.output, steps, &self.reply);
                     if steps.clock == message.first {
                         return;
                     }
                 }
                 Ok(None) => return,
-                Err(refusal) => return self.refused(refusal, output),
+                Err(refusal) => return self.refuse(refusal),
             }
         }
     }
 
-    // The end: a last piece that is no whole message, which the reader refuses, and the length of the list.
-    fn finish<R: Print + Eprint>(&self, piece: &[u8], output: &mut Output<R>) {
-        if !piece.is_empty() {
-            if let Err(refusal) = message::read(piece) {
-                self.refused(refusal, output);
-            }
+    // A line with the message's place and the refusal's number.
+    fn refuse(&mut self, refusal: Refusal) {
+        let place = self.place;
+        let _ = writeln!(self.output, "refused {place} {refusal}");
+    }
+
+    // The end: a last piece is no whole message and is refused, and the length of the list is told. No run from a fresh desk meets a refusal there.
+    fn finish(&mut self, piece: &[u8]) {
+        if !piece.is_empty()
+            && let Err(refusal) = message::read(piece)
+        {
+            self.refuse(refusal);
         }
         match desk::length(&self.desk) {
             Ok(held) => {
-                let _ = writeln!(output, "held {held}");
+                let _ = writeln!(self.output, "held {held}");
             }
-            Err(refusal) => self.refused(refusal, output),
+            Err(refusal) => self.refuse(refusal),
         }
-        output.write_out();
-    }
-
-    fn refused<R: Print + Eprint>(&self, refusal: Refusal, output: &mut Output<R>) {
-        let place = self.place;
-        let _ = writeln!(output, "refused {place} {refusal}");
+        self.output.write_out();
     }
 }
 
-// The blocks of the due boards, one behind the other: a board's number, how many entries it shows, and id, score and tick of each.
+// The blocks that a step wrote: of each a line with the moment, the board's number and how many entries it shows, and the entries' lines.
 #[tactic(auto, using(crate::proofs::Shows::front))]
-fn put_blocks<R: Print + Eprint>(moment: u32, words: &[u32], output: &mut Output<R>)
-    requires { Blocks words.now }
+fn put_blocks(output: &mut impl Write, steps: Steps, reply: &[u32])
+    requires { Shown steps reply.now }
 {
-    let mut left = words;
+    let moment = steps.clock;
+    let mut left = &reply[..steps.words as usize];
     while let [board, count, behind @ ..] = left {
         let _ = writeln!(output, "answer {moment} {board} {count}");
         let (entries, others) = behind.split_at(3 * *count as usize);
-        for entry in entries.chunks_exact(3) {
-            if let [id, score, tick] = entry {
-                let _ = writeln!(output, "{id} {score} {tick}");
-            }
-        }
+        put_entries(output, entries);
         left = others;
+    }
+}
+
+// A line of id, score and tick for each three words.
+fn put_entries(output: &mut impl Write, words: &[u32]) {
+    for [id, score, tick] in words.as_chunks::<3>().0 {
+        let _ = writeln!(output, "{id} {score} {tick}");
     }
 }

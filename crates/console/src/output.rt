@@ -4,19 +4,30 @@ ghost use Rattle.console.specs.declared.output.TheConstants.{ROOM};
 
 use std::fmt;
 
-pub const ROOM: usize = 65536;
+// As much as is written out at once.
+const ROOM: usize = 65536;
+
+// No line is longer: a word of at most 8 bytes, and at most three numbers with a byte after each.
+const LINE: usize = 71;
 
 // The first bytes wait to be written out.
 #[derive(Drop)]
 pub struct Output<'a, R> {
-    pub rt: &'a R,
-    pub bytes: [u8; ROOM],
-    pub waiting: usize,
-    pub ghost within: { waiting ≤ ROOM },
+    rt: &'a R,
+    bytes: [u8; ROOM],
+    waiting: usize,
+    ghost within: { waiting ≤ ROOM },
 }
 
-impl<R: Print + Eprint> Output<'_, R> {
-    // What waits goes out.
+impl<'a, R: Print + Eprint> Output<'a, R> {
+    pub fn new(rt: &'a R) -> Output<'a, R> {
+        Output {
+            rt,
+            bytes: [0; ROOM],
+            waiting: 0,
+        }
+    }
+
     pub fn write_out(&mut self)
         ensures { self.new.waiting ≡ 0 }
     {
@@ -25,25 +36,28 @@ impl<R: Print + Eprint> Output<'_, R> {
     }
 }
 
+// Writing here gives no error: a write that fails is told where it is made.
 impl<R: Print + Eprint> fmt::Write for Output<'_, R> {
-    // What waits is written out first where the text might not fit behind it; a text that no room holds goes out at once.
     fn write_str(&mut self, text: &str) -> fmt::Result {
-        let text = text.as_bytes();
-        if ROOM - self.waiting < text.len() {
+        let bytes = text.as_bytes();
+        // A text that does not fit behind what waits goes out after it; no line of the console comes to this.
+        if ROOM - self.waiting < bytes.len() {
             self.write_out();
-        }
-        if ROOM < text.len() {
-            put(self.rt, text);
+            put(self.rt, bytes);
             return Ok(());
         }
-        let end = self.waiting + text.len();
-        self.bytes[self.waiting..end].copy_from_slice(text);
+        let end = self.waiting + bytes.len();
+        self.bytes[self.waiting..end].copy_from_slice(bytes);
         self.waiting = end;
+        // Lines go out whole, so that a write that fails loses no half line: where the next might not fit, before it begins.
+        if ROOM - end < LINE && text.ends_with('\n') {
+            self.write_out();
+        }
         Ok(())
     }
 }
 
-// A write that fails is told, and the run goes on.
+// The run goes on after a write that fails.
 fn put(rt: &(impl Print + Eprint), bytes: &[u8]) {
     if rt.write_all(bytes).is_err() {
         let _ = eprintln!(rt; "console: standard output cannot be written");
