@@ -8,28 +8,12 @@ use Rattle.walk.proofs.Walkable.{facts}
 use Rattle.walk.proofs.Keeping.{all_kept, sift_few}
 use Rattle.walk.proofs.walk.Goals as goal
 
-pub line_up-line-requires : goal.line_up-line-requires
-line_up-line-requires c =
-    let d = c.args.desk.now in
-    let h = facts _ _ _ (sym c.is_holdable.ensures ∙ c.if-not-is_holdable.false) in
-    rw c.listed.ensures (omega (arith, h.short, length-take d.len d.entries))
-
-pub mark_all-requires : goal.mark_all-requires
-mark_all-requires c =
-    let h = facts _ _ _ (sym c.is_holdable.ensures ∙ c.if-not-is_holdable.false) in
-    rw c.loaded.ensures h.cells
-
 pub keep-desk-requires-clause-fits : goal.keep-desk-requires-clause-fits
 keep-desk-requires-clause-fits c =
     let d = c.args.desk.now in
     let h = facts _ _ _ (sym c.is_holdable.ensures ∙ c.if-not-is_holdable.false) in
     let all : kept c.mark_all.new.line ≡ sift (cell_views (loaded d) c.args.clock) (arrived c.args.new (listed d)) = all_kept (loaded d) c.args.clock (arrived c.args.new (listed d)) (rw (c.loaded.ensures, c.line_up-line.ensures, c.listed.ensures) at c.mark_all.ensures) in
     rw all (omega (arith, h.needs, sift_few c.args.clock (loaded d) (arrived c.args.new (listed d))))
-
-pub keep-desk-requires-clause-short : goal.keep-desk-requires-clause-short
-keep-desk-requires-clause-short c =
-    let h = facts _ _ _ (sym c.is_holdable.ensures ∙ c.if-not-is_holdable.false) in
-    h.short
 
 pub returns : goal.returns
 returns c =
