@@ -236,7 +236,7 @@ fn is_holdable(desk: &Desk) -> bool
 }
 
 // The walk over the list and the new entry, if there is one. A desk that the walk cannot hold stays as it stands.
-#[tactic(auto, using(std::proofs::lemmas::Bool::Decides::nat_tests), unfolding(crate::specs::Walk::holdable))]
+#[tactic(auto, using(std::proofs::lemmas::Bool::Decides::nat_tests, crate::proofs::Keeping::all_kept, crate::proofs::Keeping::few_kept), unfolding(crate::specs::Walk::holdable))]
 fn walk(desk: &mut Desk, clock: u32, new: Option<Entry>)
     ensures { desk.new ≡ cond (walkable desk.old) (walked_to desk.old clock new) desk.old }
 {
