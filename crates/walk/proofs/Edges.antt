@@ -35,11 +35,6 @@ numbered_past {b} {first} {next} {views} {n} given h k =
     let m : suc (next + (views - n)) * b.slide ≤ suc (first + views) * b.slide = mul-le-mul (omega arith) (omega arith) in
     record { small = omega (arith, given.small); near = omega (arith, given.near, m); slides = λ l. given.slides (omega arith) }
 
--- The first view's moment does not wrap.
-pub moment_fits : (b : Board) (first views : ℕ) → Numbered b first views → b.slide < 4294967296 → (first + 1) * b.slide < 18446744073709551616
-unfolding moment
-moment_fits b first views given h = omega (arith, spaced b first views, given.near)
-
 module _ (b : Board) (first views : ℕ) (s : Spot) (given : Numbered b first views) where
   past_edge : past (edge b first views) s.entry.tick ≡ true → counts_for b s ≡ true → 0 < held_by b first views s
   unfolding edge reach_of

@@ -147,5 +147,8 @@ unfolding cell_views needs need cells
 caps_needs n [] = refl
 caps_needs n (b ∷ bs) = rw (caps_append, nested_caps, caps_needs n bs, mul_comm (cells b) b.k)
 
-pub sift_few : (n : ℕ) (bs : List Board) (es : List Entry) → length (sift (cell_views bs n) es) ≤ needs bs
+sift_few : (n : ℕ) (bs : List Board) (es : List Entry) → length (sift (cell_views bs n) es) ≤ needs bs
 sift_few n bs es = rw (← caps_needs n bs) (room (cell_views bs n) es)
+
+pub few_kept : (bs : List Board) (n : ℕ) (es : List Entry) {line : List Spot} → line ≡ noted with_mark (board_views bs n) (map spot_of es) → length (kept line) ≤ needs bs
+few_kept bs n es e = rw (all_kept bs n es e) (sift_few n bs es)

@@ -22,7 +22,7 @@ use Rattle.rules.specs.Moments.{upto}
 use Rattle.rules.specs.Cells.{cells}
 use Rattle.rules.specs.declared.Board.{Board}
 use Rattle.walk.specs.Line.{with_mark}
-use Rattle.walk.specs.Edges.{counts_for, reach_of, held_by, views_from, lowered, edge, past}
+use Rattle.walk.specs.Edges.{counts_for, reach_of, held_by, views_from, Stay, lowered, edge, past}
 use Rattle.walk.specs.declared.Spot.{Spot}
 use Rattle.walk.specs.declared.Views.{Views}
 use Rattle.walk.proofs.Edges.{at_edge}
@@ -97,12 +97,12 @@ module _ (v : Views) where
           let t = ((and-eq-true_iff (leb start spot.entry.tick) (counts_for v.board spot)).0 e).1 in
           nested_pass (reach_of v.board) v.first v.left.now spot ∙ ap (nested (reach_of v.board) v.first) (sym (front_min (λ q. q - 1) (reach_of v.board spot - v.first) v.left.now) ∙ rw t)
 
-      pub marks_it : (w : Views) → w.board ≡ v.board → w.first ≡ v.first + empties less → w.left.now ≡ drop (empties less) less
-          → from (i + 1) (noted with_mark (in_hand w)) (set line i (with_mark spot)) ≡ whole
+      pub marks_it : (w : Views) → Stay v.board v.first less w.board w.first w.left.now → from (i + 1) (noted with_mark (in_hand w)) (set line i (with_mark spot)) ≡ whole
       unfolding views_from
-      marks_it w b n d =
-          rw (b, n, d) (
-          ap (λ l. take (i + 1) (set line i (with_mark spot)) ++ l) (sym (ap (λ vs. noted with_mark vs (drop (i + 1) (set line i (with_mark spot)))) passed ∙ full_gone (reach_of v.board) v.first less (drop (i + 1) (set line i (with_mark spot)))))
+      marks_it w t =
+          let rest : List Spot = drop (i + 1) (set line i (with_mark spot)) in
+          rw (t.same, t.number_is, t.rest_is) (
+          ap (λ l. take (i + 1) (set line i (with_mark spot)) ++ l) (sym (ap (λ vs. noted with_mark vs rest) passed ∙ full_gone (reach_of v.board) v.first less rest))
           ∙ sym (noted_shown with_mark (in_hand v) line i no_spot h (shown ∙ e)) ∙ together
           )
 
@@ -113,7 +113,6 @@ marked_all vs line i h t =
     sym (rw z at (take-append-drop i line)) ∙ (rw z at t)
 
 -- The walk begins with k left in each view.
-pub starts : (b : Board) (n : ℕ) (line : List Spot) (v : Views) {first : ℕ} {all : List ℕ} → all ≡ replicate (cells b) b.k → first ≡ upto b n → v.board ≡ b → v.first ≡ first + empties all → v.left.now ≡ drop (empties all) all
-    → noted with_mark (in_hand v) line ≡ noted with_mark (views_from b (upto b n) (replicate (cells b) b.k)) line
+pub starts : (b : Board) (first : ℕ) (left : List ℕ) (line : List Spot) (v : Views) → Stay b first left v.board v.first v.left.now → noted with_mark (in_hand v) line ≡ noted with_mark (views_from b first left) line
 unfolding views_from
-starts b n line v {first} {all} a u o f l = rw (o, f, l, u) (sym (full_gone (reach_of b) (upto b n) all line) ∙ ap (λ qs. noted with_mark (nested (reach_of b) (upto b n) qs) line) a)
+starts b first left line v t = rw (t.same, t.number_is, t.rest_is) (sym (full_gone (reach_of b) first left line))

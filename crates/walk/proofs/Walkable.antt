@@ -22,13 +22,6 @@ module _ (bs : List Board) (count len : ℕ) where
       let m = (and-eq-true_iff _ _).0 k.0 in
       record { few = leb-true _ _ m.0; cells = leb-true _ _ m.1; needs = leb-true _ _ k.1; short = leb-true _ _ h.1 }
 
-  pub holds : Holdable bs count len → true ≡ holdable bs count len
-  unfolding holdable
-  holds w = sym (rw (le-leb _ _ w.few, le-leb _ _ w.cells, le-leb _ _ w.needs, le-leb _ _ w.short))
-
-  pub fails : (Holdable bs count len → ⊥) → false ≡ holdable bs count len
-  fails f = sym (untrue (holdable bs count len) (λ e. f (facts e)))
-
 -- The sums of the boards from number i on
 
 module _ (boards : List Board) (i : ℕ) where

@@ -1,10 +1,10 @@
 -- One board's walk. Its views with nothing left are the first ones, so the board shows an entry exactly if the entry lies in the first view behind them:
 -- if its tick is at or past an edge.
-use Rattle.std.specs.Prelude.{Bool, false, cond, ◌&&◌, List, [], ◌∷◌, ◌++◌, ℕ, ◌+◌, ◌-◌, ◌*◌, ◌≤◌, ◌<◌, min, ltb, leb, length, replicate, Option, Some, None}
+use Rattle.std.specs.Prelude.{◌≡◌, Bool, false, cond, ◌&&◌, List, [], ◌∷◌, ◌++◌, ℕ, ◌+◌, ◌-◌, ◌*◌, ◌≤◌, ◌<◌, min, ltb, leb, length, drop, replicate, Option, Some, None}
 use Rattle.std.specs.Int.Bits.{bit_and}
 use Rattle.std.specs.Coded.{×_prop, Unit-prop, le_prop}
 use Rattle.lists.specs.Views.{View}
-use Rattle.lists.specs.Nested.{nested, on_front, Rise}
+use Rattle.lists.specs.Nested.{nested, empties, on_front, Rise}
 use Rattle.rules.specs.Desk.{limit}
 use Rattle.rules.specs.Moments.{moment, upto}
 use Rattle.rules.specs.Cells.{cells}
@@ -36,6 +36,12 @@ pub record Numbered (b : Board) (first views : ℕ) : Type 0 where
   pub small : first + views ≤ limit + 1024
   pub near : moment b (first + views) ≤ limit + 1025 * b.slide
   pub slides : 0 < views → 0 < b.slide
+
+-- Of views from number `first` on, these stay: those that have something left, for those that have nothing are the first ones.
+pub record Stay (b : Board) (first : ℕ) (left : List ℕ) (board : Board) (number : ℕ) (rest : List ℕ) : Type 0 where
+  pub same : board ≡ b
+  pub number_is : number ≡ first + empties left
+  pub rest_is : rest ≡ drop (empties left) left
 
 -- what views have left once those that hold this tick have lost one
 unfoldable pub lowered : Board → ℕ → ℕ → List ℕ → List ℕ

@@ -10,7 +10,7 @@ ghost use Rattle.rules.specs.Cells.{cells};
 ghost use Rattle.rules.specs.SharedList.{settled};
 ghost use Rattle.walk.specs.Walk.{sum_cells, walkable, arrived, walked_to, thinned_to, with_entry};
 ghost use Rattle.walk.specs.Line.{bit_of, named_bits, spot_of, with_mark, entry_of, kept};
-ghost use Rattle.walk.specs.Edges.{views_from, board_views, Numbered, lowered, edge, rise_prop};
+ghost use Rattle.walk.specs.Edges.{views_from, board_views, Numbered, Stay, lowered, edge, rise_prop};
 
 use rules::{Board, Desk, Entry, LIMIT};
 
@@ -75,9 +75,7 @@ impl<'a> Views<'a> {
     fn new(board: Board, first: usize, left: &'a mut [u32]) -> Self
         requires numbered { Numbered board first (length left.old) }
         requires rise { Rise 0 left.old }
-        ensures board { result.board ≡ board }
-        ensures first { result.first ≡ first + empties_of left.old }
-        ensures left { result.left.now ≡ drop (empties_of left.old) left.old }
+        ensures { Stay board first left.old result.board result.first result.left.now }
     {
         let full = empties(left);
         Views {
@@ -85,6 +83,17 @@ impl<'a> Views<'a> {
             first: first + full,
             left: &mut left[full..],
         }
+    }
+
+    // A board's views at the clock, with k left in each.
+    #[tactic(auto, using(crate::proofs::Edges::numbered, lists::proofs::Nested::rise_all))]
+    fn at(board: Board, clock: u32, left: &'a mut [u32; 1024]) -> Self
+        requires { cells board ≤ 1024 }
+        ensures { Stay board (upto board clock) (replicate (cells board) board.k) result.board result.first result.left.now }
+    {
+        let left = &mut left[..board.cells()];
+        left.fill(board.k);
+        Views::new(board, board.moments_upto(clock as usize), left)
     }
 
     // The first tick that some view holds; none where none holds any.
@@ -101,9 +110,7 @@ impl<'a> Views<'a> {
 
     // The views once an entry of this tick is shown: those that hold it have one less left.
     fn lower(self, tick: u32) -> Self
-        ensures board { result.board ≡ self.entry.board }
-        ensures first { result.first ≡ self.entry.first + empties_of (lowered self.entry.board self.entry.first tick self.entry.left.now) }
-        ensures left { result.left.now ≡ (let less = lowered self.entry.board self.entry.first tick self.entry.left.now in drop (empties_of less) less) }
+        ensures { let v = self.entry in Stay v.board v.first (lowered v.board v.first tick v.left.now) result.board result.first result.left.now }
     {
         let Views { board, first, left } = self;
         let last = tick as usize + board.window as usize;
@@ -138,9 +145,7 @@ fn mark(board: Board, clock: u32, left: &mut [u32; 1024], line: &mut [Spot])
     ensures { line.new ≡ noted with_mark (views_from board (upto board clock) (replicate (cells board) board.k)) line.old }
 {
     let topics = topics(board);
-    let left = &mut left[..board.cells()];
-    left.fill(board.k);
-    let mut views = Views::new(board, board.moments_upto(clock as usize), left);
+    let mut views = Views::at(board, clock, left);
     let Some(mut edge) = views.edge() else {
         return;
     };
@@ -231,6 +236,7 @@ fn is_holdable(desk: &Desk) -> bool
 }
 
 // The walk over the list and the new entry, if there is one. A desk that the walk cannot hold stays as it stands.
+#[tactic(auto, using(std::proofs::lemmas::Bool::Decides::nat_tests, crate::proofs::Keeping::all_kept, crate::proofs::Keeping::few_kept), unfolding(crate::specs::Walk::holdable))]
 fn walk(desk: &mut Desk, clock: u32, new: Option<Entry>)
     ensures { desk.new ≡ cond (walkable desk.old) (walked_to desk.old clock new) desk.old }
 {

@@ -31,17 +31,13 @@ pub new-requires-clause-rise : goal.new-requires-clause-rise
 unfolding lowered
 new-requires-clause-rise c =
     let v = c.args.self in
-    let d = done v.board v.first c.args.tick c.loop-left.left-index c.min-held.result v.left.now c.loop-left.left-items c.loop-left.invariant c.loop-left.auto.left-items c.loop-left-test.false c.loop-left.auto.left-index-end c.moments_upto.ensures c.saturating_sub.ensures c.min-held.ensures in
-    rw d (rise_lower 1 _ v.left.now v.rise)
+    let l = c.loop-left in
+    let d = done v.board v.first c.args.tick l.left-index c.min-held.result v.left.now l.left-items l.invariant l.auto.left-items c.loop-left-test.false l.auto.left-index-end c.moments_upto.ensures c.saturating_sub.ensures c.min-held.ensures in
+    rw d (rise_lower 1 (min (upto v.board (c.args.tick + v.board.window) - v.first) (length v.left.now)) v.left.now v.rise)
 
-pub returns-clause-first : goal.returns-clause-first
-returns-clause-first c =
+pub returns : goal.returns
+returns c =
     let v = c.args.self in
-    let d = done v.board v.first c.args.tick c.loop-left.left-index c.min-held.result v.left.now c.loop-left.left-items c.loop-left.invariant c.loop-left.auto.left-items c.loop-left-test.false c.loop-left.auto.left-index-end c.moments_upto.ensures c.saturating_sub.ensures c.min-held.ensures in
-    rw d at c.new.ensures.first
-
-pub returns-clause-left : goal.returns-clause-left
-returns-clause-left c =
-    let v = c.args.self in
-    let d = done v.board v.first c.args.tick c.loop-left.left-index c.min-held.result v.left.now c.loop-left.left-items c.loop-left.invariant c.loop-left.auto.left-items c.loop-left-test.false c.loop-left.auto.left-index-end c.moments_upto.ensures c.saturating_sub.ensures c.min-held.ensures in
-    rw d at c.new.ensures.left
+    let l = c.loop-left in
+    let d = done v.board v.first c.args.tick l.left-index c.min-held.result v.left.now l.left-items l.invariant l.auto.left-items c.loop-left-test.false l.auto.left-index-end c.moments_upto.ensures c.saturating_sub.ensures c.min-held.ensures in
+    rw d at c.new.ensures
