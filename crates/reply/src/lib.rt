@@ -1,7 +1,7 @@
 // A step's blocks, written into a lent slice of words.
 #![tactic(auto)]
 
-ghost use Rattle.std.specs.Prelude.{◌≡◌, [], ◌∷◌, ◌+◌, ◌*◌, ◌≤◌, length, take};
+ghost use Rattle.std.specs.Prelude.{◌≡◌, [], ◌∷◌, ◌+◌, ◌*◌, ◌≤◌, length};
 ghost use Rattle.rules.specs.Desk.{loaded, listed};
 ghost use Rattle.rules.specs.Refusals.{reply_need};
 ghost use Rattle.rules.specs.Calls.{entry_words, block, shown_at, blocks, written};
@@ -16,26 +16,21 @@ pub struct Wrote {
     pub words: u32,
 }
 
-// The array comes by value: so it says that it has 32 boards, and a lent desk of another crate does not.
+// The words that a reply must have: 2 + 3k for each board, due or not. The array is read here and not `loaded()`: only of the array
+// it is known that it has no more than 32 boards, and that bounds the sum.
 #[tactic(auto, unfolding(rules::specs::Refusals::reply_need))]
-fn sum_of_needs(boards: [Board; 32], count: usize) -> usize
-    ensures { result ≡ reply_need (take count boards) }
+pub fn reply_need(desk: &Desk) -> usize
+    ensures { result ≡ reply_need (loaded desk.now) }
 {
+    let boards = &desk.boards[..];
     let mut need: usize = 0;
-    for board in &boards[..count.min(32)] {
+    for board in &boards[..desk.count.min(boards.len())] {
         need += 2 + 3 * board.k as usize;
     }
     need
 }
 
-// The words that a reply must have: 2 + 3k for each board, due or not.
-pub fn reply_need(desk: &Desk) -> usize
-    ensures { result ≡ reply_need (loaded desk.now) }
-{
-    sum_of_needs(desk.boards, desk.count)
-}
-
-// An entry: its id, score and tick.
+// An entry: its id, score and tick. Three stores, for copy_from_slice makes a block take more than twice as long.
 fn write_entry(e: Entry, reply: &mut [u32])
     requires { 3 ≤ length reply.old }
     ensures { reply.new ≡ written (entry_words (e ∷ [])) reply.old }
