@@ -22,6 +22,7 @@ use Rattle.rules.specs.declared.Board.{Board}
 use Rattle.rules.specs.declared.Entry.{Entry}
 use Rattle.reply.proofs.Filling.{Filling, turn, more, full}
 
+-- the library's word for those that pass a test
 those_filter : {A : Type 0} (p : A → Bool) (xs : List A) → those p xs ≡ filter p xs
 those_filter p [] = refl
 those_filter p (x ∷ xs) = ap (λ l. cond (p x) (x ∷ l) l) (those_filter p xs)
@@ -48,7 +49,7 @@ next_shown all n e f h room three p =
 
 -- Where all are written, the number in front and the count behind it make them the block.
 pub blocked : {reply : List ℕ} {n : ℕ} (number : ℕ) (r : List ℕ) (all : List Entry) → 2 ≤ length r
-    → Filling (r) reply (2 + 3 * n) (entry_words (drop n all)) (take 2 r ++ entry_words all) → n ≡ length all
+    → Filling r reply (2 + 3 * n) (entry_words (drop n all)) (take 2 r ++ entry_words all) → n ≡ length all
     → (2 + 3 * n ≡ length (block number all)) × (set (set reply 0 number) 1 n ≡ written (block number all) r)
 unfolding entry_words
 blocked number [] all two g none = absurd (omega arith)

@@ -1,7 +1,7 @@
 // A step's blocks, written into a lent slice of words.
 #![tactic(auto)]
 
-ghost use Rattle.std.specs.Prelude.{◌≡◌, [], ◌∷◌, ◌+◌, ◌*◌, ◌≤◌, length, take};
+ghost use Rattle.std.specs.Prelude.{◌≡◌, [], ◌∷◌, ◌+◌, ◌*◌, ◌≤◌, length};
 ghost use Rattle.rules.specs.Desk.{loaded, listed};
 ghost use Rattle.rules.specs.Refusals.{reply_need};
 ghost use Rattle.rules.specs.Calls.{entry_words, block, shown_at, blocks, written};
@@ -28,7 +28,7 @@ pub fn reply_need(desk: &Desk) -> usize
     need
 }
 
-// An entry: its id, score and tick.
+// An entry: its id, score and tick. Three stores, for copy_from_slice makes a block take more than twice as long.
 fn write_entry(e: Entry, reply: &mut [u32])
     requires { 3 ≤ length reply.old }
     ensures { reply.new ≡ written (entry_words (e ∷ [])) reply.old }
