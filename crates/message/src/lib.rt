@@ -10,7 +10,7 @@ ghost use Rattle.rules.specs.Replies.{replied, kind_of};
 ghost use Rattle.message.specs.Encoding.{numbers};
 ghost use Rattle.message.specs.Outcomes.{wrote};
 
-use rules::{Board, Kind, Message, Refusal};
+use rules::{Kind, Message, Refusal};
 
 pub const SIZE: usize = 20;
 
@@ -157,13 +157,7 @@ impl Known {
     {
         let message = self.message;
         match self.kind {
-            Kind::Board => Board {
-                mask: message.byte,
-                window: message.first,
-                slide: message.second,
-                k: message.third,
-            }
-            .fits(),
+            Kind::Board => self.message.board().fits(),
             Kind::Request => rules::request_fits(message.byte, message.second),
             Kind::Open => true,
             Kind::Clock => rules::clock_fits(message.first),

@@ -6,12 +6,7 @@ ghost use Rattle.lists.specs.Views.{all};
 ghost use Rattle.rules.specs.Desk.{board_fits, need as need_of, needs, loaded};
 ghost use Rattle.rules.specs.Refusals.{disorder, entry_fits, falls};
 
-use rules::{Board, Desk, Entry};
-
-// The most boards that a desk has, and the most that their needs come to.
-const BOARDS: usize = 32;
-
-const PLACES: usize = 1024;
+use rules::{BOARDS, Board, Desk, Entry, PLACES};
 
 // The sum of needs. Boards that do not fit may have any need: a sum past the largest number stays there, and is too much anyway.
 #[tactic(auto, unfolding(rules::specs::Desk::needs))]

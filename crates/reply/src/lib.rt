@@ -7,7 +7,7 @@ ghost use Rattle.rules.specs.Refusals.{reply_need};
 ghost use Rattle.rules.specs.Calls.{entry_words, block, shown_at, blocks, written};
 ghost use Rattle.reply.specs.Written.{wrote, blocks_into, all_written};
 
-use rules::{Board, Desk, Entry};
+use rules::{BOARDS, Board, Desk, Entry, PLACES};
 
 // The number of due boards, and the number of words written.
 #[derive(Clone, Copy)]
@@ -83,7 +83,7 @@ fn write_due(desk: &Desk, at: u32, reply: &mut [u32]) -> Wrote
 pub fn write_blocks(desk: &Desk, at: u32, reply: &mut [u32]) -> Wrote
     ensures { (result ≡ wrote desk.now at (length reply.old)) × (reply.new ≡ blocks_into desk.now at reply.old) }
 {
-    if 32 < desk.count || 1024 < desk.len || reply.len() < reply_need(desk) {
+    if BOARDS < desk.count || PLACES < desk.len || reply.len() < reply_need(desk) {
         return Wrote { due: 0, words: 0 };
     }
     write_due(desk, at, reply)
