@@ -157,7 +157,7 @@ impl Known {
     {
         let message = self.message;
         match self.kind {
-            Kind::Board => self.message.board().fits(),
+            Kind::Board => message.board().fits(),
             Kind::Request => rules::request_fits(message.byte, message.second),
             Kind::Open => true,
             Kind::Clock => rules::clock_fits(message.first),
