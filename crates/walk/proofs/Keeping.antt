@@ -11,7 +11,7 @@ use mathlib.Core.Bool.{true, false}
 use borrow.Author.Tests.{ltb-true, lt-ltb}
 use lib.Bits.{bit_and, and_high, and_zero_r}
 use lib.Dec.{eqb, ltb}
-use lib.ListN.{length, take, drop, get_or, replicate, length-append}
+use lib.ListN.{length, take, drop, get_or, replicate, length-append, drop_of_length-le}
 use lib.Seq.{drop-cons, drop-drop, length-take-le}
 use borrow.Rule.Slice.PartMut.{put_mid}
 use Rattle.lists.specs.Views.{View, along, shows, pass, sift, caps}
@@ -21,7 +21,7 @@ use Rattle.lists.proofs.Bools.{by}
 use Rattle.lists.proofs.Laws.{room}
 use Rattle.lists.proofs.Along.{shows_along, pass_along}
 use Rattle.lists.proofs.Nested.{nested_caps, caps_append}
-use Rattle.lists.proofs.Marks.{noted_append}
+use Rattle.lists.proofs.Marks.{noted_none, noted_append}
 use Rattle.rules.specs.Desk.{names, need, needs, no_board, no_entry}
 use Rattle.rules.specs.SharedList.{settled}
 use Rattle.rules.specs.Moments.{upto}
@@ -57,6 +57,10 @@ next_board boards i n line h =
     let b : Board = get_or boards i no_board in
     rw (drop-cons boards i no_board h, add-one)
     (noted_append with_mark (λ x. refl) (views_from b (upto b n) (replicate (cells b) b.k)) (board_views (drop (suc i) boards) n) line (blind_boards (drop (suc i) boards) n))
+
+pub boards_done : (boards : List Board) (i n : ℕ) (line : List Spot) → length boards ≤ i → noted with_mark (board_views (drop i boards) n) line ≡ line
+unfolding board_views
+boards_done boards i n line h = rw (drop_of_length-le boards {i = i} h) (noted_none with_mark line)
 
 -- A view sees an entry's tick and its topic's bit alone.
 

@@ -8,7 +8,7 @@ use native.Mathlib.Omega.{arith}
 use native.Mathlib.Nat.{min-le_right}
 use borrow.Author.Tests.{ltb-false, lt-ltb}
 use lib.Dec.{ltb, leb}
-use lib.ListN.{length, take, drop, get_or, set, replicate, take-append-drop, drop_of_length-le}
+use lib.ListN.{length, take, drop, get_or, set, take-append-drop, drop_of_length-le}
 use Rattle.std.specs.Prelude.{Option, Some, None}
 use Rattle.lists.specs.Views.{View, shows, pass}
 use Rattle.lists.specs.Nested.{view, nested, empties, from, Rise}
@@ -18,8 +18,6 @@ use Rattle.lists.proofs.Nested.{left_edge, nested_shows, nested_pass}
 use Rattle.lists.proofs.Fronts.{front_min}
 use Rattle.lists.proofs.Marks.{noted_idle, noted_shown, noted_passed}
 use Rattle.rules.specs.Desk.{no_entry}
-use Rattle.rules.specs.Moments.{upto}
-use Rattle.rules.specs.Cells.{cells}
 use Rattle.rules.specs.declared.Board.{Board}
 use Rattle.walk.specs.Line.{with_mark}
 use Rattle.walk.specs.Edges.{counts_for, reach_of, held_by, views_from, Stay, lowered, edge, past}

@@ -1,5 +1,5 @@
 -- The shared list after a step and after a request: what the future views still show of its entries. A desk that the walk cannot hold stays as it stands.
-use Rattle.std.specs.Prelude.{List, [], ◌∷◌, Bool, cond, ◌&&◌, ℕ, ◌+◌, ◌≤◌, leb, Option, Some, None}
+use Rattle.std.specs.Prelude.{List, [], ◌∷◌, Bool, cond, ◌&&◌, ℕ, ◌+◌, leb, Option, Some, None}
 use Rattle.lists.specs.Views.{sift}
 use Rattle.rules.specs.Desk.{loaded, listed, needs}
 use Rattle.rules.specs.Cells.{cells, cell_views}
@@ -16,13 +16,6 @@ sum_cells (b ∷ bs) = cells b + sum_cells bs
 -- what the walk can hold: 32 boards, 1,024 cells and needs, 1,024 places
 unfoldable pub holdable : List Board → ℕ → ℕ → Bool
 holdable bs count len = leb count 32 && leb (sum_cells bs) 1024 && leb (needs bs) 1024 && leb len 1024
-
--- the same as facts
-pub record Holdable (bs : List Board) (count len : ℕ) : Type 0 where
-  pub few : count ≤ 32
-  pub cells : sum_cells bs ≤ 1024
-  pub needs : needs bs ≤ 1024
-  pub short : len ≤ 1024
 
 abbrev pub walkable : Desk → Bool
 walkable d = holdable (loaded d) d.count d.len

@@ -108,6 +108,7 @@ impl<'a> Views<'a> {
         Some((at as u32).saturating_sub(self.board.window))
     }
 
+    #[tactic(auto, using(crate::proofs::Fronts::front_at, crate::proofs::Fronts::rise_least, crate::proofs::Fronts::rise_front))]
     // The views once an entry of this tick is shown: those that hold it have one less left.
     fn lower(self, tick: u32) -> Self
         ensures { let v = self.entry in Stay v.board v.first (lowered v.board v.first tick v.left.now) result.board result.first result.left.now }
@@ -162,6 +163,7 @@ fn mark(board: Board, clock: u32, left: &mut [u32; 1024], line: &mut [Spot])
 }
 
 // Each board marks what it shows.
+#[tactic(auto, using(crate::proofs::Walkable::cells_rest, crate::proofs::Keeping::next_board, crate::proofs::Keeping::boards_done))]
 fn mark_all(boards: &[Board], clock: u32, line: &mut [Spot])
     requires { sum_cells boards.now ≤ 1024 }
     ensures { line.new ≡ noted with_mark (board_views boards.now clock) line.old }
@@ -198,6 +200,7 @@ fn line_up<'a>(listed: &[Entry], new: Option<Entry>, line: &'a mut [Spot; 1025])
 }
 
 // What has a mark is the list now, with zeros behind it up to the old length.
+#[tactic(auto, using(crate::proofs::Keeping::place))]
 fn keep(line: &[Spot], len: usize, entries: &mut [Entry; 1024]) -> usize
     requires fits { length (kept line.now) ≤ 1024 }
     requires short { len ≤ 1024 }

@@ -3,11 +3,8 @@ use mathlib.Core.List.{append-nil}
 use lib.ListN.{drop_of_length-le}
 use Rattle.rules.specs.Desk.{no_entry}
 use Rattle.walk.specs.Line.{kept}
-use Rattle.walk.proofs.Keeping.{place, settles}
+use Rattle.walk.proofs.Keeping.{settles}
 use Rattle.walk.proofs.keep.Goals as goal
-
-pub bounds-entries-now : goal.bounds-entries-now
-bounds-entries-now c = omega (arith, place c.args.line.now c.loop-spot.entries c.loop-spot.spot-index c.loop-spot.now c.loop-spot-test.true c.if-spot.true (omega arith) c.loop-spot.invariant.whole)
 
 pub returns : goal.returns
 returns c =

@@ -1,12 +1,8 @@
-use Rattle.std.proofs.Common.{◌≡◌, ◌∙◌, ◌&&◌, Bool, ℕ, leb, ltb, replicate, sym, arith}
+use Rattle.std.proofs.Common.{◌≡◌, ◌∙◌, ◌&&◌, Bool, ℕ, leb, ltb, sym, arith}
 use Rattle.std.specs.Int.Bits.{bit_and}
-use Rattle.rules.specs.Cells.{cells}
 use Rattle.rules.specs.declared.Board.{Board}
 use Rattle.walk.specs.Line.{named_bits}
-use Rattle.lists.proofs.Nested.{rise_all}
-use Rattle.std.proofs.lemmas.Grind.{common_steps}
-use Rattle.std.proofs.lemmas.List.{length-replicate, set-get_or}
-use Rattle.walk.proofs.Edges.{numbered}
+use Rattle.std.proofs.lemmas.List.{set-get_or}
 use Rattle.walk.proofs.Marking.{starts, skips, marks_it, marked_early, marked_all}
 use Rattle.walk.proofs.mark.Goals as goal
 use Rattle.walk.proofs.mark.Goals.{then-is_shown+in-Some-edge, else-is_shown}

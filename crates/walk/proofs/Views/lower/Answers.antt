@@ -6,13 +6,8 @@ use Rattle.rules.specs.declared.Board.{Board}
 use Rattle.lists.specs.Nested.{on_front}
 use Rattle.lists.proofs.Nested.{rise_lower}
 use Rattle.walk.specs.Edges.{lowered}
-use Rattle.walk.proofs.Fronts.{front_at, front_more, front_part, rise_least, rise_front}
+use Rattle.walk.proofs.Fronts.{front_at, front_more, front_part}
 use Rattle.walk.proofs.Views.lower.Goals as goal
-
-pub overflow_sub-left : goal.overflow_sub-left
-overflow_sub-left c =
-    let l = c.args.self.left.now in
-    rw (c.loop-left.invariant, front_at) (rise_least 1 (take c.min-held.result l) c.loop-left.left-index (rise_front 1 c.min-held.result l c.args.self.rise) c.loop-left-test.true)
 
 pub loop-left-preserved : goal.loop-left-preserved
 loop-left-preserved c =
