@@ -7,7 +7,7 @@ ghost use Rattle.foreign.specs.Foreign.{numbers_call, replied, Left};
 
 use rules::{Desk, Message, Refusal, Steps};
 
-// The refusal is 0 where the message was accepted; the others are 0 but after an accepted step.
+// Numbers, for C: the refusal is 0 where the message was accepted; the others are 0 but after an accepted step.
 #[repr(C)]
 #[derive(Clone, Copy)]
 pub struct Replied {
@@ -22,14 +22,9 @@ impl From<Result<Option<Steps>, Refusal>> for Replied {
     ghost from_gives = { λ answer numbers. numbers ≡ replied (answered answer) };
 
     fn from(answer: Result<Option<Steps>, Refusal>) -> Replied {
-        let steps = Steps {
-            clock: 0,
-            due: 0,
-            words: 0,
-        };
         let (refusal, steps) = match answer {
-            Ok(reached) => (0, reached.unwrap_or(steps)),
-            Err(refusal) => (u32::from(refusal), steps),
+            Ok(reached) => (0, reached.unwrap_or_default()),
+            Err(refusal) => (u32::from(refusal), Steps::default()),
         };
         Replied {
             refusal,

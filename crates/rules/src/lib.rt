@@ -47,7 +47,7 @@ pub struct Time {
     pub phase: u32,
 }
 
-// The first `count` boards are loaded; the first `len` entries are on the list.
+// The first `count` boards are loaded; the first `len` entries are on the list. Arrays with a length beside them, for C lends the desk, and no call takes memory.
 #[repr(C)]
 #[derive(Clone, Copy)]
 pub struct Desk {
@@ -100,7 +100,7 @@ pub enum Refusal {
 }
 
 // What an accepted step returns: the clock reached, the number of due boards, the number of words written.
-#[derive(Clone, Copy, Debug, PartialEq, Eq)]
+#[derive(Clone, Copy, Debug, Default, PartialEq, Eq)]
 pub struct Steps {
     pub clock: u32,
     pub due: u32,
