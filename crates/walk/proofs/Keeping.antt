@@ -2,16 +2,15 @@
 use mathlib.Core.Logic.{inl, inr}
 use mathlib.Core.Path.{◌≡◌, refl, sym, ap, ◌∙◌}
 use mathlib.Core.List.Memᴰ
-use mathlib.Core.List.{List, [], ◌∷◌, ◌++◌, map, map-append}
+use mathlib.Core.List.{List, [], ◌∷◌, map, map-append}
 use Prim.Native.Nat.{ℕ, zero, suc, ◌+◌, ◌*◌, ◌/◌, ◌%◌, ◌^◌, ◌-◌, ◌≤◌, ◌<◌, max}
 use native.Mathlib.Omega.{arith}
 use native.Mathlib.Numerals.{add-one}
 use native.Mathlib.Nat.{add_comm, mul_comm, zero-mul, two-pow-succ, pow-le-pow_right, mod-lt}
-use mathlib.Core.Bool.{true, false}
 use borrow.Author.Tests.{ltb-true, lt-ltb}
 use lib.Bits.{bit_and, and_high, and_zero_r}
 use lib.Dec.{eqb, ltb}
-use lib.ListN.{length, take, drop, get_or, replicate, length-append, drop_of_length-le}
+use lib.ListN.{length, take, drop, get_or, replicate, drop_of_length-le}
 use lib.Seq.{drop-cons, drop-drop, length-take-le}
 use borrow.Rule.Slice.PartMut.{put_mid}
 use Rattle.lists.specs.Views.{View, along, shows, pass, sift, caps}
@@ -123,17 +122,6 @@ kept_sift vs (e ∷ es) =
 
 pub all_kept : (bs : List Board) (n : ℕ) (es : List Entry) {line : List Spot} → line ≡ noted with_mark (board_views bs n) (map spot_of es) → kept line ≡ sift (cell_views bs n) es
 all_kept bs n es e = rw (e, kept_sift) (ap (λ vs. sift vs es) (views_spot bs n))
-
--- Onto the list, one by one
-
-abbrev no_spot : Spot
-no_spot = record { entry = no_entry; bit = 0; marked = false }
-
--- what is marked goes to a place that the list has
-pub place : (line : List Spot) (entries : List Entry) (i now : ℕ) → i < length line → (get_or line i no_spot).marked ≡ true → now ≤ length entries → take now entries ++ kept (drop i line) ≡ kept line → now < length (kept line)
-place line entries i now h m k t =
-    let n : suc (length (kept (drop (suc i) line))) ≡ length (kept (drop i line)) = rw (drop-cons line i no_spot h, m) in
-    omega (arith, length-append (take now entries) (kept (drop i line)), length-take-le now entries k, ap length t)
 
 -- behind the list come zeros up to the old length
 pub settles : (len now : ℕ) (stood entries : List Entry) {es zeros : List Entry} → now ≤ length entries → take now entries ≡ es → drop now entries ≡ drop now stood → zeros ≡ replicate (max len now - now) no_entry

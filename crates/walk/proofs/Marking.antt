@@ -50,7 +50,7 @@ none_empty [] h = refl
 none_empty (q ∷ qs) h = rw (lt-ltb 0 q h.0)
 
 -- what stands where nothing does
-abbrev no_spot : Spot
+abbrev pub no_spot : Spot
 no_spot = record { entry = no_entry; bit = 0; marked = false }
 
 abbrev pub in_hand : Views → List (View Spot)

@@ -108,8 +108,8 @@ impl<'a> Views<'a> {
         Some((at as u32).saturating_sub(self.board.window))
     }
 
-    #[tactic(auto, using(crate::proofs::Fronts::front_at, crate::proofs::Fronts::rise_least, crate::proofs::Fronts::rise_front))]
     // The views once an entry of this tick is shown: those that hold it have one less left.
+    #[tactic(auto, using(crate::proofs::Fronts::front_at, crate::proofs::Fronts::rise_least, crate::proofs::Fronts::rise_front))]
     fn lower(self, tick: u32) -> Self
         ensures { let v = self.entry in Stay v.board v.first (lowered v.board v.first tick v.left.now) result.board result.first result.left.now }
     {
@@ -200,7 +200,6 @@ fn line_up<'a>(listed: &[Entry], new: Option<Entry>, line: &'a mut [Spot; 1025])
 }
 
 // What has a mark is the list now, with zeros behind it up to the old length.
-#[tactic(auto, using(crate::proofs::Keeping::place))]
 fn keep(line: &[Spot], len: usize, entries: &mut [Entry; 1024]) -> usize
     requires fits { length (kept line.now) ≤ 1024 }
     requires short { len ≤ 1024 }
@@ -219,7 +218,7 @@ fn keep(line: &[Spot], len: usize, entries: &mut [Entry; 1024]) -> usize
 }
 
 // Whether the walk can hold the desk; each sum is tested as it grows.
-#[tactic(auto, using(std::proofs::lemmas::Bool::Decides::nat_tests, crate::proofs::Walkable::cells_rest, crate::proofs::Walkable::needs_rest, crate::proofs::Walkable::none_rest), unfolding(crate::specs::Walk::holdable))]
+#[tactic(auto, using(crate::proofs::Walkable::cells_rest, crate::proofs::Walkable::needs_rest, crate::proofs::Walkable::none_rest), unfolding(crate::specs::Walk::holdable))]
 fn is_holdable(desk: &Desk) -> bool
     ensures { result ≡ walkable desk.now }
 {
@@ -239,7 +238,7 @@ fn is_holdable(desk: &Desk) -> bool
 }
 
 // The walk over the list and the new entry, if there is one. A desk that the walk cannot hold stays as it stands.
-#[tactic(auto, using(std::proofs::lemmas::Bool::Decides::nat_tests, crate::proofs::Keeping::all_kept, crate::proofs::Keeping::few_kept), unfolding(crate::specs::Walk::holdable))]
+#[tactic(auto, using(crate::proofs::Keeping::all_kept, crate::proofs::Keeping::few_kept), unfolding(crate::specs::Walk::holdable))]
 fn walk(desk: &mut Desk, clock: u32, new: Option<Entry>)
     ensures { desk.new ≡ cond (walkable desk.old) (walked_to desk.old clock new) desk.old }
 {
