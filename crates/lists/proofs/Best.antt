@@ -4,7 +4,7 @@ use mathlib.Core.List.Memᴰ
 use mathlib.Core.List.{List, [], ◌∷◌, ◌++◌}
 use mathlib.Core.Bool.{Bool, true, false, cond, ◌&&◌, and_assoc, and-eq-true_iff}
 use mathlib.Core.Logic.{◌⊎◌, inl, inr, ◌↔◌}
-use Prim.Native.Nat.{ℕ, zero, suc, ◌+◌, ◌-◌, ◌≤◌, ◌<◌, min}
+use Prim.Native.Nat.{ℕ, zero, suc, ◌+◌, ◌≤◌, ◌<◌, min}
 use native.Mathlib.Omega.{arith}
 use native.Mathlib.Nat.{min-le_left, suc-min-suc}
 use lib.ListN.{length, take, length-take}
@@ -60,12 +60,6 @@ module _ {A : Type 0} (p : A → Bool) where
   pub those_fewer : (xs : List A) → length (those p xs) ≤ length xs
   those_fewer [] = omega arith
   those_fewer (x ∷ xs) = let r = those_fewer xs in by (p x) (λ e. rw e (omega arith)) (λ e. rw e (omega arith))
-
-  -- Of the first k, n are taken, and x is the next of those.
-  pub take_those : (k n : ℕ) (x : A) (xs : List A) → n < k → p x ≡ true → take (k - n) (those p (x ∷ xs)) ≡ x ∷ take (k - (n + 1)) (those p xs)
-  take_those k n x xs h e =
-      let m : k - n ≡ suc (k - (n + 1)) = omega arith in
-      rw (e, m)
 
   -- A stronger test passes no more.
   pub fewer_those : (q q' : A → Bool) (xs : List A) → ((x : A) → x ∈ xs → q' x ≡ true → q x ≡ true) → count p (those q' xs) ≤ count p (those q xs)

@@ -5,6 +5,5 @@ pub mod Place
 pub mod Best
 pub mod Nested
 pub mod Along
-pub mod Turns
 pub mod Fronts
 pub mod Marks

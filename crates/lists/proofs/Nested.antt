@@ -6,13 +6,13 @@ use mathlib.Core.List.{List, [], ◌∷◌, ◌++◌}
 use mathlib.Core.Bool.{false, ◌||◌, or-false, or_assoc}
 use Prim.Native.Nat.{ℕ, zero, suc, ◌+◌, ◌-◌, ◌*◌, ◌≤◌, ◌<◌, min}
 use native.Mathlib.Omega.{arith}
-use native.Mathlib.Nat.{sub-zero, zero-sub, zero-min, min-zero, suc-min-suc, min-le_right}
+use native.Mathlib.Nat.{zero-min, min-zero, suc-min-suc, min-le_right}
 use native.Mathlib.Decide.{ℕ_discrete}
-use borrow.Author.Tests.{ltb-true, ltb-false, lt-ltb, le-ltb}
-use lib.ListN.{length, get_or, take, drop, replicate, take-append-drop}
+use borrow.Author.Tests.{ltb-true, lt-ltb, le-ltb}
+use lib.ListN.{length, get_or, replicate}
 use lib.Dec.{ltb, leb-suc-suc}
 use Rattle.lists.specs.Views.{View, ◌∈◌, sees, shows, spend, pass, sift, caps}
-use Rattle.lists.specs.Nested.{view, nested, left, empties, on_front, from, Rise}
+use Rattle.lists.specs.Nested.{view, nested, left, empties, on_front, Rise}
 use Rattle.lists.proofs.Bools.{by}
 
 -- All caps of a rising list are at least its first bound.
@@ -56,39 +56,6 @@ left_edge n (suc c) (q ∷ qs) h k =
 pub empties_few : (qs : List ℕ) → empties qs ≤ length qs
 empties_few [] = omega arith
 empties_few (q ∷ qs) = by (ltb 0 q) (λ e. rw e (omega arith)) (λ e. rw e (omega (arith, empties_few qs)))
-
-pub empties_past : (f : ℕ) (qs : List ℕ) → f ≤ empties qs → f + empties (drop f qs) ≡ empties qs
-empties_past zero qs h = omega arith
-empties_past (suc f) [] h = absurd (omega arith)
-empties_past (suc f) (q ∷ qs) h =
-    by (ltb 0 q)
-    (λ e. absurd (omega (arith, rw e at h)))
-    (λ e. rw e (omega (arith, empties_past f qs (omega (arith, rw e at h)))))
-
-pub empties_take : (n : ℕ) (qs : List ℕ) → empties (take n qs) ≤ empties qs
-empties_take zero qs = omega arith
-empties_take (suc n) [] = omega arith
-empties_take (suc n) (q ∷ qs) = by (ltb 0 q) (λ e. rw e (omega arith)) (λ e. rw e (omega (arith, empties_take n qs)))
-
-pub empties_lower : (c : ℕ) (qs : List ℕ) → empties qs ≤ empties (on_front (λ q. q - 1) c qs)
-empties_lower zero qs = omega arith
-empties_lower (suc c) [] = omega arith
-empties_lower (suc c) (q ∷ qs) =
-    by (ltb 0 q)
-    (λ e. rw e (omega arith))
-    (λ e. rw (e, le-ltb 0 (q - 1) (omega (arith, ltb-false 0 q e))) (omega (arith, empties_lower c qs)))
-
-pub lower_past : (f c : ℕ) (qs : List ℕ) → f ≤ empties qs → on_front (λ q. q - 1) c qs ≡ from f (on_front (λ q. q - 1) (c - f)) qs
-lower_past zero c qs h = rw (sub-zero c)
-lower_past (suc f) c [] h = absurd (omega arith)
-lower_past (suc f) zero (q ∷ qs) h = rw (zero-sub (suc f)) (sym (take-append-drop (suc f) (q ∷ qs)))
-lower_past (suc f) (suc c) (q ∷ qs) h =
-    by (ltb 0 q)
-    (λ e. absurd (omega (arith, rw e at h)))
-    (λ e.
-    let z : q - 1 ≡ q = omega (arith, ltb-false 0 q e) in
-    let m : suc c - suc f ≡ c - f = omega arith in
-    rw (z, m) (ap (λ l. q ∷ l) (lower_past f c qs (omega (arith, rw e at h)))))
 
 module _ {A : Type 0} (reach : A → ℕ) where
   nested_pass_at : (i c : ℕ) (qs : List ℕ) (x : A) → reach x - i ≡ c → pass x (nested reach i qs) ≡ nested reach i (on_front (λ q. q - 1) c qs)

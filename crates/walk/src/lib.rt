@@ -12,7 +12,7 @@ ghost use Rattle.walk.specs.Walk.{sum_cells, walkable, arrived, walked_to, thinn
 ghost use Rattle.walk.specs.Line.{bit_of, named_bits, spot_of, with_mark, entry_of, kept};
 ghost use Rattle.walk.specs.Edges.{views_from, board_views, Numbered, Stay, lowered, edge, rise_prop};
 
-use rules::{Board, Desk, Entry, LIMIT};
+use rules::{BOARDS, Board, Desk, Entry, LIMIT, PLACES};
 
 // What stands at the places behind the list's end.
 const NO_ENTRY: Entry = Entry {
@@ -22,15 +22,8 @@ const NO_ENTRY: Entry = Entry {
     topic: 0,
 };
 
-// All zeros, which cost least to write.
-const NO_SPOT: Spot = Spot {
-    entry: NO_ENTRY,
-    bit: 0,
-    marked: false,
-};
-
 // An entry in line, the bit of its topic, and whether some board has marked it.
-#[derive(Clone, Copy)]
+#[derive(Clone, Copy, Default)]
 struct Spot {
     entry: Entry,
     bit: u8,
@@ -222,7 +215,7 @@ fn keep(line: &[Spot], len: usize, entries: &mut [Entry; 1024]) -> usize
 fn is_holdable(desk: &Desk) -> bool
     ensures { result ≡ walkable desk.now }
 {
-    if 32 < desk.count || 1024 < desk.len {
+    if BOARDS < desk.count || PLACES < desk.len {
         return false;
     }
     let mut cells: usize = 0;
@@ -245,7 +238,8 @@ fn walk(desk: &mut Desk, clock: u32, new: Option<Entry>)
     if !is_holdable(desk) {
         return;
     }
-    let mut line = [NO_SPOT; 1025];
+    // A place more than the list has, for the new entry.
+    let mut line = [Spot::default(); 1025];
     let line = line_up(desk.listed(), new, &mut line);
     mark_all(desk.loaded(), clock, line);
     desk.len = keep(line, desk.len, &mut desk.entries);
