@@ -218,7 +218,7 @@ fn keep(line: &[Spot], len: usize, entries: &mut [Entry; 1024]) -> usize
 }
 
 // Whether the walk can hold the desk; each sum is tested as it grows.
-#[tactic(auto, using(crate::proofs::Walkable::cells_rest, crate::proofs::Walkable::needs_rest, crate::proofs::Walkable::none_rest), unfolding(crate::specs::Walk::holdable))]
+#[tactic(auto, using(std::proofs::lemmas::Bool::Decides::nat_tests, crate::proofs::Walkable::cells_rest, crate::proofs::Walkable::needs_rest, crate::proofs::Walkable::none_rest), unfolding(crate::specs::Walk::holdable))]
 fn is_holdable(desk: &Desk) -> bool
     ensures { result ≡ walkable desk.now }
 {
