@@ -1,7 +1,7 @@
 // The walk that keeps the shared list: each board alone marks what it shows, best first, and what has a mark stays.
 #![tactic(auto)]
 
-ghost use Rattle.std.specs.Prelude.{◌≡◌, cond, ◌&&◌, ◌++◌, ◌+◌, ◌-◌, ◌≤◌, ◌<◌, ltb, leb, length, take, drop, map, replicate};
+ghost use Rattle.std.specs.Prelude.{◌≡◌, cond, ◌&&◌, ◌≤◌, ltb, leb, length, map, replicate};
 ghost use Rattle.std.specs.Int.Bits.{bit_and};
 ghost use Rattle.lists.specs.Nested.{empties as empties_of, Rise};
 ghost use Rattle.lists.specs.Marks.{noted};
@@ -9,7 +9,7 @@ ghost use Rattle.rules.specs.Moments.{upto};
 ghost use Rattle.rules.specs.Cells.{cells};
 ghost use Rattle.rules.specs.SharedList.{settled};
 ghost use Rattle.walk.specs.Walk.{sum_cells, walkable, arrived, walked_to, thinned_to, with_entry};
-ghost use Rattle.walk.specs.Line.{bit_of, named_bits, spot_of, with_mark, entry_of, kept};
+ghost use Rattle.walk.specs.Line.{named_bits, spot_of, with_mark, kept};
 ghost use Rattle.walk.specs.Edges.{views_from, board_views, Numbered, Stay, lowered, edge, rise_prop};
 
 use rules::{BOARDS, Board, Desk, Entry, LIMIT, PLACES};
@@ -211,7 +211,7 @@ fn keep(line: &[Spot], len: usize, entries: &mut [Entry; 1024]) -> usize
 }
 
 // Whether the walk can hold the desk; each sum is tested as it grows.
-#[tactic(auto, using(crate::proofs::Walkable::cells_rest, crate::proofs::Walkable::needs_rest, crate::proofs::Walkable::none_rest), unfolding(crate::specs::Walk::holdable))]
+#[tactic(auto, using(std::proofs::lemmas::Bool::Decides::nat_tests, crate::proofs::Walkable::cells_rest, crate::proofs::Walkable::needs_rest, crate::proofs::Walkable::none_rest), unfolding(crate::specs::Walk::holdable))]
 fn is_holdable(desk: &Desk) -> bool
     ensures { result ≡ walkable desk.now }
 {
