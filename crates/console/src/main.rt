@@ -15,7 +15,7 @@ use std::io::Read;
 // The longest reply: 2 words for each of 32 boards, and 3 for each of 1,024 entries. So no step is refused with 12.
 const REPLY: usize = 3136;
 
-// What one read may give, and the piece of a message that is left of the read before.
+// What one read may give, behind the piece of a message that is left of the read before: a buffer with a length beside it, for no memory is taken.
 const INPUT: usize = 65536;
 
 // A desk after some messages, how many they were, the words that its last step wrote, and where its answers are printed.
@@ -31,7 +31,7 @@ fn main(rt: HostRuntime) {
     run(&rt, &mut rt.stdin());
 }
 
-// To the end of the input. The reads are counted up to a number that no run reaches.
+// To the end of the input. The reads are counted up to a number that no run reaches, for a loop has to end.
 fn run<R: Print + Eprint>(rt: &R, stdin: &mut impl Read) {
     let mut input = [0u8; INPUT];
     let mut lesson = Lesson {
