@@ -7,10 +7,10 @@ use std::fmt;
 // As much as is written out at once.
 const ROOM: usize = 65536;
 
-// No line is longer: a word of at most 8 bytes, and at most three numbers with a byte after each.
+// No line is longer: a word of at most 8 bytes, and at most three numbers of at most 20 digits with a byte after each.
 const LINE: usize = 71;
 
-// The first bytes wait to be written out.
+// The first bytes wait to be written out: a buffer with a length in it, for no memory is taken.
 #[derive(Drop)]
 pub struct Output<'a, R> {
     rt: &'a R,
@@ -51,6 +51,7 @@ impl<R: Print + Eprint> fmt::Write for Output<'_, R> {
         let end = self.waiting + bytes.len();
         self.bytes[self.waiting..end].copy_from_slice(bytes);
         self.waiting = end;
+        prove!(b"refused ".len() + 3 * (20 + 1) <= LINE);
         // Lines go out whole, so that a write that fails loses no half line: where the next might not fit, before it begins.
         if ROOM - end < LINE && text.ends_with('\n') {
             self.write_out();

@@ -1,4 +1,4 @@
-// The exports for C and Rust: the archive has desk_take under its own name, and each export only calls the library's function.
+// The exports for C and Rust: the archive has desk_take under its own name, and each export only calls the library's function, since a library exports nothing.
 #![tactic(auto)]
 
 ghost use Rattle.std.specs.Prelude.{◌≡◌};

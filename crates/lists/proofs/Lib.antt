@@ -5,5 +5,6 @@ pub mod Place
 pub mod Best
 pub mod Nested
 pub mod Along
+pub mod Turns
 pub mod Fronts
 pub mod Marks

@@ -65,7 +65,7 @@ pub fn rest(bytes: &[u8]) -> &[u8]
     &bytes[SIZE.min(bytes.len())..]
 }
 
-// The big-endian number in these bytes, four at most: one loop for two and for four, since `from_be_bytes` wants an array of each.
+// The big-endian number in these bytes, four at most. `from_be_bytes` is no plainer: it wants an array, so each byte by its index, at each of the places.
 #[tactic(auto, using(crate::proofs::Numbers::taken_more), unfolding(rules::specs::Messages::big_endian))]
 fn number(bytes: &[u8]) -> u32
     requires { length bytes.now ≤ 4 }

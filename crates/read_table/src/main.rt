@@ -10,6 +10,8 @@ use rules::{Message, Refusal};
 // A message stands in the middle of a buffer.
 const FRONT: usize = 7;
 
+const BUFFER: usize = 32;
+
 fn main(rt: HostRuntime) {
     table(
         &rt,
@@ -33,7 +35,7 @@ fn main(rt: HostRuntime) {
     );
 }
 
-fn table(rt: &impl Print, name: &str, buffer: &[u8; 32]) {
+fn table(rt: &impl Print, name: &str, buffer: &[u8; BUFFER]) {
     whole(rt, name, &buffer[FRONT..]);
     row(rt, name, "one-more", buffer, |bytes, at| {
         bytes[at] = bytes[at].wrapping_add(1);
@@ -76,12 +78,13 @@ fn row<F: Fn(&mut [u8], usize) -> Result<Message, Refusal>>(
     rt: &impl Print,
     name: &str,
     label: &str,
-    buffer: &[u8; 32],
+    buffer: &[u8; BUFFER],
     step: F,
 )
     requires { (bytes : _) (at : _) → length bytes.now ≡ 25 → at < 20 → F.pre step bytes at }
 {
     let _ = print!(rt; "{name} {label}");
+    // The place itself is what the step is given.
     for place in 0..SIZE {
         let mut damaged = *buffer;
         let read = step(&mut damaged[FRONT..], place);

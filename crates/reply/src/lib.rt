@@ -16,7 +16,7 @@ pub struct Wrote {
     pub words: u32,
 }
 
-// The words that a reply must have: 2 + 3k for each board, due or not.
+// The words that a reply must have: 2 + 3k for each board, due or not. A loop, and not `order`'s sum, for no board makes this one too much.
 #[tactic(auto, unfolding(rules::specs::Refusals::reply_need))]
 pub fn reply_need(desk: &Desk) -> usize
     ensures { result ≡ reply_need (loaded desk.now) }

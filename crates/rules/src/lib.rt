@@ -58,7 +58,8 @@ pub struct Desk {
     pub entries: [Entry; PLACES],
 }
 
-// A message's kind, its byte 6, and its numbers at bytes 8, 12 and 16. The kind is a number, for a message of any other kind is refused with 4.
+// A message's kind, its byte 6, and its numbers at bytes 8, 12 and 16. The kind is a number: `message::write` and `desk::take` promise
+// an answer for any, 4 for one that is none.
 #[repr(C)]
 #[derive(Clone, Copy)]
 pub struct Message {
@@ -168,11 +169,10 @@ impl Board {
     pub fn cells(self) -> usize
         ensures { result ≡ cells self }
     {
-        let slide = self.slide as usize;
-        if slide == 0 {
+        if self.slide == 0 {
             return 0;
         }
-        (self.window as usize + (slide - 1)) / slide
+        (self.window as usize).div_ceil(self.slide as usize)
     }
 
     #[tactic(auto, using(crate::proofs::MomentLaw::rounded_small), unfolding(crate::specs::Desk::need, crate::specs::Cells::cells))]
@@ -187,11 +187,9 @@ impl Board {
     pub fn moments_upto(self, x: usize) -> usize
         ensures { result ≡ upto self x }
     {
-        let slide = self.slide as usize;
-        if slide == 0 {
-            return 0;
-        }
-        x.min(LIMIT as usize) / slide
+        x.min(LIMIT as usize)
+            .checked_div(self.slide as usize)
+            .unwrap_or(0)
     }
 
     // The board's first moment above the clock; past the limit it is none.
@@ -206,7 +204,7 @@ impl Board {
     pub fn is_moment(self, tick: u32) -> bool
         ensures { result ≡ is_moment self tick }
     {
-        0 < tick && self.slide != 0 && tick % self.slide == 0 && tick <= LIMIT
+        0 < tick && tick.is_multiple_of(self.slide) && tick <= LIMIT
     }
 
     // Whether the entry lies in the board's window at a moment.

@@ -10,8 +10,9 @@ ghost use Rattle.text.specs.Machine.{fresh, next, ends, says, line_end, begun, e
 use rules::{Message, Refusal};
 
 // A line that was begun: its finished numbers, how many they are, the one that is being read, whether that has a digit, and whether the form is broken.
-// `take` and `end` promise an answer for every value of these, so for a number without a digit and for a count past the numbers too: no `Option`, no slice.
-#[derive(Clone, Copy)]
+// `take` and `end` promise an answer for every value of these, so for a number without a digit, for a count past the numbers, and for all of
+// these in a broken line: no `Option`, no slice, no `Result`.
+#[derive(Clone, Copy, Default)]
 pub struct Begun {
     pub numbers: [u64; 6],
     pub count: usize,
@@ -42,13 +43,7 @@ const OUT_OF_RANGE: u64 = 1 << 32;
 pub fn fresh() -> Begun
     ensures { result ≡ fresh }
 {
-    Begun {
-        numbers: [0; 6],
-        count: 0,
-        value: 0,
-        digits: false,
-        broken: false,
-    }
+    Begun::default()
 }
 
 // The messages of a whole text, from a place on.

@@ -30,18 +30,20 @@ struct Spot {
     marked: bool,
 }
 
-impl Spot {
-    // Past the eighth topic the bit is none, for no board names it.
-    fn of(entry: Entry) -> Spot
-        ensures { result ≡ spot_of entry }
-    {
+// Past the eighth topic the bit is none, for no board names it.
+impl From<Entry> for Spot {
+    ghost from_gives = { λ entry spot. spot ≡ spot_of entry };
+
+    fn from(entry: Entry) -> Spot {
         Spot {
             entry,
             bit: 1u8.checked_shl(entry.topic).unwrap_or(0),
             marked: false,
         }
     }
+}
 
+impl Spot {
     // Whether a board that names these topics, and whose edge is this, shows the entry. It is one test and not two, seldom true, so that the processor foretells it;
     // the spot comes by value, for a bit that is read behind the first test makes two of it.
     fn is_shown(self, topics: u32, edge: u32) -> bool
@@ -80,7 +82,7 @@ impl<'a> Views<'a> {
 
     // A board's views at the clock, with k left in each.
     #[tactic(auto, using(crate::proofs::Edges::numbered, lists::proofs::Nested::rise_all))]
-    fn at(board: Board, clock: u32, left: &'a mut [u32; 1024]) -> Self
+    fn at(board: Board, clock: u32, left: &'a mut [u32; PLACES]) -> Self
         requires { cells board ≤ 1024 }
         ensures { Stay board (upto board clock) (replicate (cells board) board.k) result.board result.first result.left.now }
     {
@@ -134,7 +136,7 @@ fn topics(board: Board) -> u32
 }
 
 // One board alone marks what it shows of the line, best first.
-fn mark(board: Board, clock: u32, left: &mut [u32; 1024], line: &mut [Spot])
+fn mark(board: Board, clock: u32, left: &mut [u32; PLACES], line: &mut [Spot])
     requires { cells board ≤ 1024 }
     ensures { line.new ≡ noted with_mark (views_from board (upto board clock) (replicate (cells board) board.k)) line.old }
 {
@@ -161,14 +163,18 @@ fn mark_all(boards: &[Board], clock: u32, line: &mut [Spot])
     requires { sum_cells boards.now ≤ 1024 }
     ensures { line.new ≡ noted with_mark (board_views boards.now clock) line.old }
 {
-    let mut left = [0; 1024];
+    let mut left = [0; PLACES];
     for board in boards {
         mark(*board, clock, &mut left, line);
     }
 }
 
 // The list in line, with the new entry before the first whose score is below its own, or at the end.
-fn line_up<'a>(listed: &[Entry], new: Option<Entry>, line: &'a mut [Spot; 1025]) -> &'a mut [Spot]
+fn line_up<'a>(
+    listed: &[Entry],
+    new: Option<Entry>,
+    line: &'a mut [Spot; PLACES + 1],
+) -> &'a mut [Spot]
     requires { length listed.now ≤ 1024 }
     ensures { result.now ≡ map spot_of (arrived new listed.now) }
 {
@@ -178,22 +184,22 @@ fn line_up<'a>(listed: &[Entry], new: Option<Entry>, line: &'a mut [Spot; 1025])
         if let Some(new) = waiting
             && entry.score < new.score
         {
-            line[total] = Spot::of(new);
+            line[total] = Spot::from(new);
             total += 1;
             waiting = None;
         }
-        line[total] = Spot::of(*entry);
+        line[total] = Spot::from(*entry);
         total += 1;
     }
     if let Some(new) = waiting {
-        line[total] = Spot::of(new);
+        line[total] = Spot::from(new);
         total += 1;
     }
     &mut line[..total]
 }
 
 // What has a mark is the list now, with zeros behind it up to the old length.
-fn keep(line: &[Spot], len: usize, entries: &mut [Entry; 1024]) -> usize
+fn keep(line: &[Spot], len: usize, entries: &mut [Entry; PLACES]) -> usize
     requires fits { length (kept line.now) ≤ 1024 }
     requires short { len ≤ 1024 }
     ensures now { result ≡ length (kept line.now) }
@@ -210,7 +216,7 @@ fn keep(line: &[Spot], len: usize, entries: &mut [Entry; 1024]) -> usize
     now
 }
 
-// Whether the walk can hold the desk; each sum is tested as it grows.
+// Whether the walk can hold the desk. Each sum is tested as it grows, so it is no sum like the others: the walk is done with the first that is too much.
 #[tactic(auto, using(std::proofs::lemmas::Bool::Decides::nat_tests, crate::proofs::Walkable::cells_rest, crate::proofs::Walkable::needs_rest, crate::proofs::Walkable::none_rest), unfolding(crate::specs::Walk::holdable))]
 fn is_holdable(desk: &Desk) -> bool
     ensures { result ≡ walkable desk.now }
@@ -223,7 +229,7 @@ fn is_holdable(desk: &Desk) -> bool
     for board in desk.loaded() {
         cells = cells.saturating_add(board.cells());
         needs = needs.saturating_add(board.need());
-        if 1024 < cells || 1024 < needs {
+        if PLACES < cells || PLACES < needs {
             return false;
         }
     }
@@ -239,7 +245,7 @@ fn walk(desk: &mut Desk, clock: u32, new: Option<Entry>)
         return;
     }
     // A place more than the list has, for the new entry.
-    let mut line = [Spot::default(); 1025];
+    let mut line = [Spot::default(); PLACES + 1];
     let line = line_up(desk.listed(), new, &mut line);
     mark_all(desk.loaded(), clock, line);
     desk.len = keep(line, desk.len, &mut desk.entries);
