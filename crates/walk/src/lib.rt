@@ -14,14 +14,6 @@ ghost use Rattle.walk.specs.Edges.{views_from, board_views, Numbered, Stay, lowe
 
 use rules::{BOARDS, Board, Desk, Entry, LIMIT, PLACES};
 
-// What stands at the places behind the list's end.
-const NO_ENTRY: Entry = Entry {
-    id: 0,
-    score: 0,
-    tick: 0,
-    topic: 0,
-};
-
 // An entry in line, the bit of its topic, and whether some board has marked it.
 #[derive(Clone, Copy, Default)]
 struct Spot {
@@ -212,7 +204,7 @@ fn keep(line: &[Spot], len: usize, entries: &mut [Entry; PLACES]) -> usize
             now += 1;
         }
     }
-    entries[now..len.max(now)].fill(NO_ENTRY);
+    entries[now..len.max(now)].fill(Entry::default());
     now
 }
 
