@@ -168,6 +168,7 @@ pub fn place(desk: &Desk, at: usize) -> Result<Entry, Refusal>
     ensures { replied result ≡ place_call desk.now at }
 {
     in_order(desk)?;
+    // By `get` the proof of its `None` stayed open, in two forms.
     if desk.len <= at {
         return Err(Refusal::Place);
     }

@@ -43,6 +43,7 @@ fn write_block(number: u32, board: Board, at: u32, listed: &[Entry], reply: &mut
     requires { 2 + 3 * board.k ≤ length reply.old }
     ensures { let words = block number (shown_at board at listed.now) in (result ≡ length words) × (reply.new ≡ written words reply.old) }
 {
+    // A count and no index: it is the block's second word.
     let mut shown: usize = 0;
     for e in listed
         .iter()

@@ -171,6 +171,7 @@ fn line_up<'a>(
     ensures { result.now ≡ map spot_of (arrived new listed.now) }
 {
     let mut waiting = new;
+    // A count of what is in line, and no index of the list: the new entry moves it on.
     let mut total = 0;
     for entry in listed {
         if let Some(new) = waiting
@@ -197,6 +198,7 @@ fn keep(line: &[Spot], len: usize, entries: &mut [Entry; PLACES]) -> usize
     ensures now { result ≡ length (kept line.now) }
     ensures list { entries.new ≡ settled len entries.old (kept line.now) }
 {
+    // The list's length now, and no index of the line.
     let mut now = 0;
     for spot in line {
         if spot.marked {
