@@ -1,7 +1,7 @@
 // Document 01, "The console program": messages from standard input go to a desk, and what it answers is printed.
 #![tactic(auto)]
 
-ghost use Rattle.std.specs.Prelude.{◌<◌, ◌≤◌, IfSome};
+ghost use Rattle.std.specs.Prelude.{◌<◌, ◌≤◌, IfSome, length};
 ghost use Rattle.console.specs.Steps.{Shown};
 
 mod output;
@@ -9,7 +9,6 @@ mod output;
 use message::SIZE;
 use output::Output;
 use rules::{Desk, Message, Refusal, Steps};
-use std::fmt::Write;
 use std::io::Read;
 
 // The longest reply: 2 words for each of 32 boards, and 3 for each of 1,024 entries. So no step is refused with 12.
@@ -45,8 +44,7 @@ fn run<R: Print + Eprint>(rt: &R, stdin: &mut impl Read) {
         let Some(end) = read_on(rt, stdin, &mut input, left) else {
             return lesson.finish(&input[..left]);
         };
-        lesson.take_all(&input[..end]);
-        left = end % SIZE;
+        left = lesson.take_all(&input[..end]);
         input.copy_within(end - left..end, 0);
     }
 }
@@ -59,7 +57,7 @@ fn read_on(
     left: usize,
 ) -> Option<usize>
     requires { left < INPUT }
-    ensures { IfSome result (λ end. end ≤ INPUT) }
+    ensures { IfSome result (λ end. (left ≤ end) × (end ≤ INPUT)) }
 {
     match stdin.read(&mut input[left..]) {
         Ok(0) => None,
@@ -72,17 +70,22 @@ fn read_on(
 }
 
 impl<R: Print + Eprint> Lesson<'_, R> {
-    // Takes every whole message, and writes out what there is to say.
-    fn take_all(&mut self, input: &[u8]) {
-        for bytes in input.chunks_exact(SIZE) {
-            match message::read(bytes) {
+    // Takes every whole message, and writes out what there is to say. So many bytes are left behind them: a piece of a message.
+    fn take_all(&mut self, input: &[u8]) -> usize
+        ensures { (result < 20) × (result ≤ length input.now) }
+    {
+        let mut rest = input;
+        while SIZE <= rest.len() {
+            match message::read(rest) {
                 Ok(message) => self.take(message),
                 Err(refusal) => self.refuse(refusal),
             }
+            rest = message::rest(rest);
             // No input has 2 to the 64 messages.
             self.place = self.place.wrapping_add(1);
         }
         self.output.write_out();
+        rest.len()
     }
 
     // Takes a message: a clock message again and again, until its target is reached.
@@ -104,11 +107,13 @@ impl<R: Print + Eprint> Lesson<'_, R> {
     // A line with the message's place and the refusal's number.
     fn refuse(&mut self, refusal: Refusal) {
         let place = self.place;
-        let _ = writeln!(self.output, "refused {place} {refusal}");
+        let _ = self.output.line(format_args!("refused {place} {refusal}"));
     }
 
     // The end: a last piece is no whole message and is refused, and the length of the list is told. No run from a fresh desk meets a refusal there.
-    fn finish(&mut self, piece: &[u8]) {
+    fn finish(&mut self, piece: &[u8])
+        requires { length piece.now < 20 }
+    {
         if !piece.is_empty()
             && let Err(refusal) = message::read(piece)
         {
@@ -116,7 +121,7 @@ impl<R: Print + Eprint> Lesson<'_, R> {
         }
         match desk::length(&self.desk) {
             Ok(held) => {
-                let _ = writeln!(self.output, "held {held}");
+                let _ = self.output.line(format_args!("held {held}"));
             }
             Err(refusal) => self.refuse(refusal),
         }
@@ -126,22 +131,32 @@ impl<R: Print + Eprint> Lesson<'_, R> {
 
 // The blocks that a step wrote: of each a line with the moment, the board's number and how many entries it shows, and the entries' lines.
 #[tactic(auto, using(crate::proofs::Shows::front))]
-fn put_blocks(output: &mut impl Write, steps: Steps, reply: &[u32])
+fn put_blocks<R: Print + Eprint>(output: &mut Output<R>, steps: Steps, reply: &[u32])
     requires { Shown steps reply.now }
 {
     let moment = steps.clock;
     let mut left = &reply[..steps.words as usize];
     while let [board, count, behind @ ..] = left {
-        let _ = writeln!(output, "answer {moment} {board} {count}");
+        put_board(output, moment, *board, *count);
         let (entries, others) = behind.split_at(3 * *count as usize);
         put_entries(output, entries);
         left = others;
     }
 }
 
-// A line of id, score and tick for each three words.
-fn put_entries(output: &mut impl Write, words: &[u32]) {
+// A line of the moment, a board's number and how many entries it shows.
+fn put_board<R: Print + Eprint>(output: &mut Output<R>, moment: u32, board: u32, count: u32) {
+    let _ = output.line(format_args!("answer {moment} {board} {count}"));
+}
+
+// A line for each three words.
+fn put_entries<R: Print + Eprint>(output: &mut Output<R>, words: &[u32]) {
     for [id, score, tick] in words.as_chunks::<3>().0 {
-        let _ = writeln!(output, "{id} {score} {tick}");
+        put_entry(output, *id, *score, *tick);
     }
+}
+
+// A line of id, score and tick.
+fn put_entry<R: Print + Eprint>(output: &mut Output<R>, id: u32, score: u32, tick: u32) {
+    let _ = output.line(format_args!("{id} {score} {tick}"));
 }
