@@ -1,10 +1,10 @@
 -- Which views of a board hold a tick, by one comparison with an edge.
-use mathlib.Core.Path.{◌≡◌, refl}
+use mathlib.Core.Path.{◌≡◌, refl, ap, ◌∙◌}
 use mathlib.Core.Bool.{true, ◌&&◌, and-eq-true_iff}
 use mathlib.Core.Logic.{⊎_elim}
-use Prim.Native.Nat.{ℕ, suc, ◌+◌, ◌-◌, ◌*◌, ◌≤◌, ◌<◌}
+use Prim.Native.Nat.{ℕ, suc, ◌+◌, ◌-◌, ◌*◌, ◌/◌, ◌≤◌, ◌<◌, min}
 use native.Mathlib.Omega.{arith}
-use native.Mathlib.Nat.{div-zero, mul-le-mul, zero-sub, zero-min}
+use native.Mathlib.Nat.{div-zero, mul-le-mul, mul-zero, zero-sub, zero-min, le-div_iff_mul-le, div-lt_iff_lt-mul}
 use borrow.Author.Tests.{ltb-true, ltb-false, lt-ltb, leb-true, le-leb}
 use lib.Dec.{ltb, leb}
 use Rattle.lists.proofs.Bools.{by, both_ways, clash}
@@ -15,6 +15,19 @@ use Rattle.rules.specs.declared.Board.{Board}
 use Rattle.rules.proofs.MomentLaw.{counted, or_beyond, spaced, next_small, upto_small}
 use Rattle.walk.specs.Edges.{counts_for, reach_of, held_by, Numbered, edge, past}
 use Rattle.walk.specs.declared.Spot.{Spot}
+
+-- Views a slide apart, and the last tick that a moment may have
+module _ (slide last first views : ℕ) where
+  pub reached : (i : ℕ) → 0 < slide → i < views → suc (first + i) * slide ≤ last → i < min (last / slide - first) views
+  reached i p h k = omega (arith, (le-div_iff_mul-le p).1 k)
+
+  pub beyond : (i : ℕ) → last < suc (first + i) * slide → min (last / slide - first) views ≤ i
+  beyond i k =
+      by (ltb 0 slide)
+      (λ e. omega (arith, (div-lt_iff_lt-mul {k = slide} {x = last} {y = suc (first + i)} (ltb-true _ _ e)).1 k))
+      (λ e.
+      let z : slide ≡ 0 = omega (arith, ltb-false 0 slide e) in
+      absurd (omega (arith, k, ap (λ s. suc (first + i) * s) z ∙ mul-zero (suc (first + i)))))
 
 -- A board at a clock: its next moment is not far past the limit, and without a slide it has no view.
 pub numbered : (b : Board) (n : ℕ) → cells b ≤ 1024 → Numbered b (upto b n) (cells b)
@@ -34,6 +47,13 @@ unfolding moment
 numbered_past {b} {first} {next} {views} {n} given h k =
     let m : suc (next + (views - n)) * b.slide ≤ suc (first + views) * b.slide = mul-le-mul (omega arith) (omega arith) in
     record { small = omega (arith, given.small); near = omega (arith, given.near, m); slides = λ l. given.slides (omega arith) }
+
+-- No moment of a view wraps.
+pub moment_fits : (b : Board) (first views view : ℕ) → Numbered b first views → view ≤ views → b.slide < 4294967296 → moment b (first + view) < 18446744073709551616
+unfolding moment
+moment_fits b first views view given h k =
+    let m : suc (first + view) * b.slide ≤ suc (first + views) * b.slide = mul-le-mul (omega arith) (omega arith) in
+    omega (arith, given.near, m)
 
 module _ (b : Board) (first views : ℕ) (s : Spot) (given : Numbered b first views) where
   past_edge : past (edge b first views) s.entry.tick ≡ true → counts_for b s ≡ true → 0 < held_by b first views s

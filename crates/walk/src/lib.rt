@@ -95,19 +95,22 @@ impl<'a> Views<'a> {
         Some((at as u32).saturating_sub(self.board.window))
     }
 
-    // The views once an entry of this tick is shown: those that hold it have one less left.
-    #[tactic(auto, using(crate::proofs::Fronts::front_at, crate::proofs::Fronts::rise_least, crate::proofs::Fronts::rise_front))]
+    // The views once an entry of this tick is shown: those that hold it, up to the first whose moment is past its window, have one less left. From moment to moment
+    // a slide is added, for a division at each entry that is shown takes longer than a few views.
+    #[tactic(auto, using(crate::proofs::Fronts::front_at, crate::proofs::Fronts::rise_least))]
     fn lower(self, tick: u32) -> Self
         ensures { let v = self.entry in Stay v.board v.first (lowered v.board v.first tick v.left.now) result.board result.first result.left.now }
     {
         let Views { board, first, left } = self;
-        let last = tick as usize + board.window as usize;
-        let held = board
-            .moments_upto(last)
-            .saturating_sub(first)
-            .min(left.len());
-        for left in &mut left[..held] {
+        let slide = board.slide as usize;
+        let last = (tick as usize + board.window as usize).min(LIMIT as usize);
+        let mut at = (first + 1) * slide;
+        for left in &mut *left {
+            if last < at {
+                break;
+            }
             *left -= 1;
+            at += slide;
         }
         Views::new(board, first, left)
     }

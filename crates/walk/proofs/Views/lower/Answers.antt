@@ -1,38 +1,53 @@
-use Rattle.std.proofs.Common.{◌≡◌, ◌++◌, ◌+◌, ◌-◌, ◌≤◌, ◌∙◌, ℕ, List, length, take, drop, ap, min, arith}
-use native.Mathlib.Nat.{min-le_right}
-use lib.Seq.{length-take-le}
-use Rattle.rules.specs.Moments.{upto}
-use Rattle.rules.specs.declared.Board.{Board}
+use Rattle.std.proofs.Common.{◌≡◌, ◌+◌, ◌-◌, ◌≤◌, ◌∙◌, refl, ℕ, length, ap, min, arith}
+use native.Mathlib.Nat.{le_antisymm}
+use Rattle.std.proofs.lemmas.List.{set-get_or}
+use Rattle.rules.specs.Desk.{limit}
+use Rattle.rules.specs.Moments.{moment, upto}
 use Rattle.lists.specs.Nested.{on_front}
 use Rattle.lists.proofs.Nested.{rise_lower}
 use Rattle.walk.specs.Edges.{lowered}
-use Rattle.walk.proofs.Fronts.{front_at, front_more, front_part}
+use Rattle.walk.proofs.Edges.{reached, beyond}
+use Rattle.walk.proofs.Fronts.{front_at, front_more}
 use Rattle.walk.proofs.Views.lower.Goals as goal
+use Rattle.walk.proofs.Views.lower.Goals.{Left-loop-left, else-loop-left-test, then-loop-left-test+then-last-at}
+
+pub loop-left-init : goal.loop-left-init
+unfolding moment
+loop-left-init c = record { held = omega arith; next = omega arith; lowered = refl }
 
 pub loop-left-preserved : goal.loop-left-preserved
+unfolding moment upto
 loop-left-preserved c =
-    let l = take c.min-held.result c.args.self.left.now in
-    rw (c.loop-left.invariant, front_at) (front_more (λ q. q - 1) c.loop-left.left-index l c.loop-left-test.true)
+    let v = c.args.self in
+    let l = c.loop-left in
+    let i = l.left-index in
+    record {
+      held = omega (arith, reached v.board.slide (min (c.args.tick + v.board.window) limit) v.first (length v.left.now) i (v.numbered.slides (omega arith)) c.loop-left-test.true (omega (arith, l.invariant.next, c.if-last-at.false, c.min-last.ensures)));
+      next = omega (arith, l.invariant.next);
+      lowered = rw (l.invariant.lowered, front_at) (front_more (λ q. q - 1) i v.left.now c.loop-left-test.true);
+    }
 
--- at the end the views that hold the tick are lowered, and the others stand behind them
-done : (b : Board) (first tick i held : ℕ) (left items : List ℕ) {upon rest : ℕ} → items ≡ on_front (λ q. q - 1) i (take held left) → length items ≡ length (take held left) → length (take held left) ≤ i → i ≤ length (take held left)
-    → upon ≡ upto b (tick + b.window) → rest ≡ upon - first → held ≡ min rest (length left) → items ++ drop held left ≡ lowered b first tick left
-unfolding lowered
-done b first tick i held left items {upon} {rest} e l a k u r m =
-    let n : i ≡ held = omega (arith, length-take-le held left (omega (arith, min-le_right rest (length left)))) in
-    rw (e, n) (front_part (λ q. q - 1) held left) ∙ ap (λ n. on_front (λ q. q - 1) n left) (m ∙ ap (λ n. min n (length left)) (r ∙ ap (λ n. n - first) u))
+-- at the end the views that hold the tick are lowered
+done : (c : Left-loop-left) → c.loop-left-test.left ≡ lowered c.args.self.board c.args.self.first c.args.tick c.args.self.left.now
+unfolding lowered moment upto
+done c =
+    let v = c.args.self in
+    let l = c.loop-left in
+    let i = l.left-index in
+    let held : ℕ = min (upto v.board (c.args.tick + v.board.window) - v.first) (length v.left.now) in
+    let when = λ (n : held ≤ i). l.invariant.lowered ∙ ap (λ n. on_front (λ q. q - 1) n v.left.now) (le_antisymm l.invariant.held n) in
+    elim c.loop-left-test.branch [
+      | else-loop-left-test w ↦ w.left-is ∙ when (omega (arith, w.loop-left-test.false))
+      | then-loop-left-test+then-last-at w ↦
+          w.left-is ∙ set-get_or l.left-items i 0
+          ∙ when (beyond v.board.slide (min (c.args.tick + v.board.window) limit) v.first (length v.left.now) i (omega (arith, l.invariant.next, w.if-last-at.true, c.min-last.ensures)))
+    ]
 
 pub new-requires-clause-rise : goal.new-requires-clause-rise
 unfolding lowered
 new-requires-clause-rise c =
     let v = c.args.self in
-    let l = c.loop-left in
-    let d = done v.board v.first c.args.tick l.left-index c.min-held.result v.left.now l.left-items l.invariant l.auto.left-items c.loop-left-test.false l.auto.left-index-end c.moments_upto.ensures c.saturating_sub.ensures c.min-held.ensures in
-    rw d (rise_lower 1 (min (upto v.board (c.args.tick + v.board.window) - v.first) (length v.left.now)) v.left.now v.rise)
+    rw (done c) (rise_lower 1 (min (upto v.board (c.args.tick + v.board.window) - v.first) (length v.left.now)) v.left.now v.rise)
 
 pub returns : goal.returns
-returns c =
-    let v = c.args.self in
-    let l = c.loop-left in
-    let d = done v.board v.first c.args.tick l.left-index c.min-held.result v.left.now l.left-items l.invariant l.auto.left-items c.loop-left-test.false l.auto.left-index-end c.moments_upto.ensures c.saturating_sub.ensures c.min-held.ensures in
-    rw d at c.new.ensures
+returns c = rw (done (goal.at.returns c).Left-loop-left) at c.new.ensures
