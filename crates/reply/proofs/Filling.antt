@@ -16,6 +16,9 @@ pub record Filling (stood reply : List ℕ) (at : ℕ) (rest whole : List ℕ) :
   pub words : take at reply ++ rest ≡ whole
   pub remains : drop at reply ≡ drop at stood
 
+pub start : (stood rest : List ℕ) → Filling stood stood 0 rest rest
+start stood rest = record { same = refl; within = omega arith; words = refl; remains = refl }
+
 -- what is left of a list at i: the element there, and what is left behind it
 pub turn : {A : Type 0} (xs : List A) (d : A) (i : ℕ) → i < length xs → drop i xs ≡ get_or xs i d ∷ drop (i + 1) xs
 turn xs d i h = rw (add-one i) (drop-cons xs i d h)
@@ -45,8 +48,11 @@ more {stood} {reply} {whole} {part} {at} {k} words rest f h l e =
       remains = rw (drop_at _ _ _ n, ← drop-drop (length words) at reply, f.remains, drop-drop (length words) at stood);
     })
 
+pub filled : {stood reply whole : List ℕ} {at : ℕ} → Filling stood reply at [] whole → take at reply ≡ whole
+filled f = rw append-nil at f.words
+
 pub full : {stood reply whole : List ℕ} {at : ℕ} → Filling stood reply at [] whole → (at ≡ length whole) × (reply ≡ written whole stood)
 full {stood} {reply} {whole} {at} f =
-    let w = rw append-nil at f.words in
+    let w = filled f in
     let n : at ≡ length whole = sym (length-take-le at reply f.within) ∙ ap length w in
     (n, sym (take-append-drop at reply) ∙ rw (w, f.remains, n))
