@@ -1,6 +1,8 @@
+pub mod Answers
 pub mod Encoding
 pub mod Front
 pub mod Holding
+pub mod Loops
 pub mod Named
 pub mod Numbers
 pub mod Parts
