@@ -1,4 +1,5 @@
--- The numbers of a board: the list is six long, so the six that the code has read are the list. And of any line: a number that is none of four is no kind; of six numbers no more than six are taken.
+-- The numbers of a board: the list is six long, so the six that the code has read are the list.
+-- And of any line: a number that is none of four is no kind, and of six numbers no more than six are taken.
 use mathlib.Core.Path.{◌≡◌, refl, sym, ap, ◌∙◌}
 use mathlib.Core.List.{List, [], ◌∷◌}
 use mathlib.Core.Bool.{true, false, and-eq-true_iff}
