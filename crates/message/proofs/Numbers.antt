@@ -36,8 +36,11 @@ unfolding big_endian
 one_byte bytes from h = one_more bytes from 0 (omega arith) ∙ simp (add-zero, zero-add)
 
 -- a message's kind is its byte 5, and its small field its byte 6
-pub kind_byte : (bytes : List ℕ) → length bytes ≡ 20 → number_at bytes 5 1 ≡ get_or bytes 5 0
+pub kind_byte : (bytes : List ℕ) → 20 ≤ length bytes → number_at bytes 5 1 ≡ get_or bytes 5 0
 kind_byte bytes h = one_byte bytes 5 (omega arith)
+
+pub front_kind : (bytes : List ℕ) → length bytes ≡ 20 → number_at bytes 5 1 ≡ get_or bytes 5 0
+front_kind bytes h = one_byte bytes 5 (omega arith)
 
 pub field_byte : (bytes : List ℕ) → length bytes ≡ 20 → number_at bytes 6 1 ≡ get_or bytes 6 0
 field_byte bytes h = one_byte bytes 6 (omega arith)

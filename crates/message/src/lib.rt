@@ -33,7 +33,7 @@ pub fn read(bytes: &[u8]) -> Result<Message, Refusal>
 }
 
 // The same of just 20 bytes; the array's type says that they are there.
-#[tactic(auto, using(crate::proofs::Numbers::kind_byte, crate::proofs::Parts::message_own, crate::proofs::Parts::own_fits, std::proofs::lemmas::Bool::Decides::nat_tests), unfolding(rules::specs::Calls::reader_call))]
+#[tactic(auto, using(crate::proofs::Numbers::front_kind, crate::proofs::Parts::message_own, crate::proofs::Parts::own_fits, std::proofs::lemmas::Bool::Decides::nat_tests), unfolding(rules::specs::Calls::reader_call))]
 fn read_front(bytes: &[u8; SIZE]) -> Result<Message, Refusal>
     ensures { replied result ≡ reader_call bytes.now }
 {
@@ -79,7 +79,7 @@ fn number(bytes: &[u8]) -> u32
 }
 
 // The numbers at a board's places, whatever the kind.
-#[tactic(auto, using(crate::proofs::Numbers::kind_byte, crate::proofs::Numbers::field_byte))]
+#[tactic(auto, using(crate::proofs::Numbers::front_kind, crate::proofs::Numbers::field_byte))]
 fn fields(bytes: &[u8; SIZE]) -> Message
     ensures { result ≡ numbers bytes.now }
 {
