@@ -34,6 +34,7 @@ pub fn read(bytes: &[u8]) -> Result<Message, Refusal>
 
 // The same of just 20 bytes; the array's type says that they are there.
 #[tactic(auto, using(crate::proofs::Numbers::front_kind, crate::proofs::Parts::message_own, crate::proofs::Parts::own_fits, std::proofs::lemmas::Bool::Decides::nat_tests), unfolding(rules::specs::Calls::reader_call))]
+#[inline(never)]
 fn read_front(bytes: &[u8; SIZE]) -> Result<Message, Refusal>
     ensures { replied result ≡ reader_call bytes.now }
 {
@@ -52,10 +53,9 @@ fn read_front(bytes: &[u8; SIZE]) -> Result<Message, Refusal>
         message: fields(bytes),
     };
     if known.fits() {
-        Ok(known.own())
-    } else {
-        Err(Refusal::Range)
+        return Ok(known.own());
     }
+    Err(Refusal::Range)
 }
 
 // What follows the twentieth byte, as a part of the same bytes.
