@@ -45,6 +45,12 @@ front_kind bytes h = one_byte bytes 5 (omega arith)
 pub field_byte : (bytes : List ℕ) → length bytes ≡ 20 → number_at bytes 6 1 ≡ get_or bytes 6 0
 field_byte bytes h = one_byte bytes 6 (omega arith)
 
+-- the four bytes of a word
+pub word_at : (bytes : List ℕ) (at : ℕ) → at + 4 ≤ length bytes
+    → get_or bytes at 0 * 16777216 + get_or bytes (at + 1) 0 * 65536 + get_or bytes (at + 2) 0 * 256 + get_or bytes (at + 3) 0 ≡ number_at bytes at 4
+word_at bytes at h =
+    omega (arith, one_byte bytes at (omega arith), one_more bytes at 1 (omega arith), one_more bytes at 2 (omega arith), one_more bytes at 3 (omega arith))
+
 -- A number and its digits
 
 pub digits_length : (size n : ℕ) → length (digits size n) ≡ size
