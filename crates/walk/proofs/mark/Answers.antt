@@ -32,7 +32,7 @@ loop-spot-preserved c =
       | then-is_shown+in-Some-edge w ↦
           let e = seen c.args.board c.loop-spot.edge _ _ i.same c.topics-topics.ensures c.is_shown.ensures w.if-is_shown.true in
           let t = marks_it c.loop-spot.views c.loop-spot.edge i.past c.loop-spot.spot-items c.loop-spot.spot-index (omega arith) i.together e w.lower-views.result w.lower-views.ensures in
-          rw (w.views-is, w.edge-is, w.spot-items-is) (record { same = w.lower-views.ensures.same ∙ i.same; past = sym w.in-Some-edge.is ∙ w.edge-then-is_shown.ensures; together = t })
+          rw (w.views-is, w.edge-is, w.spot-items-is) (record { same = w.lower-views.ensures.same ∙ i.same; past = grind (arith, sym w.in-Some-edge.is ∙ w.edge-then-is_shown.ensures); together = t })
       | else-is_shown w ↦
           let e = seen c.args.board c.loop-spot.edge _ _ i.same c.topics-topics.ensures c.is_shown.ensures w.if-is_shown.false in
           rw (w.views-is, w.edge-is, w.spot-items-is, set-get_or) (record { same = i.same; past = i.past; together = skips c.loop-spot.views c.loop-spot.edge i.past c.loop-spot.spot-items c.loop-spot.spot-index (omega arith) i.together e })
