@@ -110,14 +110,14 @@ fn zero(bytes: &[u8]) -> bool
 }
 
 // The bytes that must be zero for the kind are.
-#[tactic(auto, using(crate::proofs::Named::open_zeros, crate::proofs::Named::clock_zeros), unfolding(rules::specs::Messages::zeros_stand, rules::specs::Messages::zero_places, rules::specs::Messages::layout))]
+#[tactic(auto, using(crate::proofs::Named::request_zeros, crate::proofs::Named::open_zeros, crate::proofs::Named::clock_zeros), unfolding(rules::specs::Messages::zeros_stand, rules::specs::Messages::zero_places, rules::specs::Messages::layout))]
 fn zeros_stand(kind: Kind, bytes: &[u8; SIZE]) -> bool
     requires { kind_of (kind_at bytes.now) ≡ Ok kind }
     ensures { result ≡ zeros_stand bytes.now (kind_at bytes.now) }
 {
     match kind {
         Kind::Board => bytes[7] == 0,
-        Kind::Request => bytes[7] == 0 && zero(&bytes[16..]),
+        Kind::Request => bytes[7] == 0 && word(bytes, 16) == 0,
         Kind::Open => zero(&bytes[6..]),
         Kind::Clock => zero(&bytes[6..8]) && zero(&bytes[12..]),
     }
