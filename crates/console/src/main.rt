@@ -76,10 +76,7 @@ impl<R: Print + Eprint> Lesson<'_, R> {
     {
         let mut rest = input;
         while SIZE <= rest.len() {
-            match message::read(rest) {
-                Ok(message) => self.take(message),
-                Err(refusal) => self.refuse(refusal),
-            }
+            self.take(rest);
             rest = message::rest(rest);
             // No input has 2 to the 64 messages.
             self.place = self.place.wrapping_add(1);
@@ -88,8 +85,12 @@ impl<R: Print + Eprint> Lesson<'_, R> {
         rest.len()
     }
 
-    // Takes a message: a clock message again and again, until its target is reached.
-    fn take(&mut self, message: Message) {
+    // Takes the message at the front: a clock message again and again, until its target is reached.
+    fn take(&mut self, bytes: &[u8]) {
+        let message = match message::read(bytes) {
+            Ok(message) => message,
+            Err(refusal) => return self.refuse(refusal),
+        };
         loop {
             match desk::take(&mut self.desk, message, &mut self.reply) {
                 Ok(Some(steps)) => {

@@ -104,7 +104,7 @@ impl Begun {
     }
 
     // One byte more, which is no line feed. The digit is asked for first, in an `if`: a `match` compiles to a test for the space before it, and a long number
-    // then takes two to three times as long.
+    // then takes about twice as long.
     #[tactic(auto, unfolding(crate::specs::Machine::next))]
     fn next(&mut self, byte: u8)
         ensures { self.new ≡ next self.old byte }
