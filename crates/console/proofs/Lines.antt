@@ -1,7 +1,7 @@
 -- A line waits whole: there is room for the longest where it begins, so each piece of it stands behind the one before. No line is longer than a word and three numbers.
-use Rattle.std.proofs.Common.{◌≡◌, ◌∙◌, ℕ, ◌+◌, ◌<◌, ◌≤◌, ◌^◌, List, [], ◌∷◌, ◌++◌, length, take, leb, cond, Result, Ok, Err, Option, Some, None, IfSome, OnOk, sym, ap, refl, append_assoc, arith, length-append}
+use Rattle.std.proofs.Common.{◌≡◌, ◌∙◌, ℕ, ◌+◌, ◌<◌, ◌≤◌, ◌^◌, List, [], ◌∷◌, ◌++◌, length, take, Result, Ok, Err, Option, Some, None, IfSome, OnOk, sym, ap, append_assoc, arith, length-append}
 use Rattle.std.specs.List.{FoldsTo, concat}
-use Rattle.std.specs.Fmt.{decimal, with_newline, WritesInCalls, WritesText}
+use Rattle.std.specs.Fmt.{decimal, with_newline, WritesText}
 use native.Mathlib.Nat.{min-le_left}
 use Rattle.std.proofs.lemmas.Bool.{le-leb}
 use Rattle.std.proofs.lemmas.List.{append-nil, length-take}
@@ -25,11 +25,11 @@ module _ {W : Type 0} (waits : W → List ℕ) (room : ℕ) where
       let n : length (waits j) + length (concat xs) ≤ room = rw first (omega (arith, length-append x (concat xs), length-append (waits w) x)) in
       pieces xs j v n more ∙ ap (λ (l : List ℕ). l ++ concat xs) first ∙ append_assoc (waits w) x (concat xs)
 
-  pub line_stands : {E : Type 0} (answer : Result (Unit {0}) E) (line : Option (List ℕ)) (longest : ℕ) (w v : W) → IfSome line (λ text. length text < longest) → length (waits w) + longest ≤ room
+  pub line_stands : {E : Type 0} (answer : Result (Unit {0}) E) (line : Option (List ℕ)) (w v : W) → IfSome line (λ text. length text < longest) → length (waits w) + longest ≤ room
       → OnOk answer (WritesText Behind w (with_newline line) v) → OnOk answer (IfSome line (λ text. waits v ≡ waits w ++ (text ++ (10 ∷ []))))
-  line_stands (Err e) line longest w v h k c = tt
-  line_stands (Ok a) None longest w v h k c = tt
-  line_stands (Ok a) (Some text) longest w v h k c =
+  line_stands (Err e) line w v h k c = tt
+  line_stands (Ok a) None w v h k c = tt
+  line_stands (Ok a) (Some text) w v h k c =
       rw (← c.whole) (pieces c.parts w v (rw c.whole (omega (arith, length-append text (10 ∷ []), h, k))) c.calls)
 
 -- a part that waits is no longer than its end

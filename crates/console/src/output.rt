@@ -67,8 +67,8 @@ impl<'a, R: Print + Eprint> Output<'a, R> {
         self.waiting = end;
     }
 
-    // A line, with its line feed. It waits whole behind what waits, so a write that fails loses no half line.
-    pub fn line<D: Display + Drop>(&mut self, line: D) -> fmt::Result
+    // A line, with its line feed. It waits whole behind what waits, so a write that fails loses no half line. It is the program's own, so it may ask how long the line is.
+    pub(crate) fn line<D: Display + Drop>(&mut self, line: D) -> fmt::Result
         requires { IfSome (D.output line) (λ text. length text < longest) }
         ensures { OnOk result (IfSome (D.output line) (λ text. take self.new.waiting self.new.bytes ≡ before_line ROOM (take self.old.waiting self.old.bytes) ++ (text ++ (10 ∷ [])))) }
     {
